@@ -1,0 +1,27 @@
+-- `trie::asking::rank_next` meets its contract.
+-- Assumes nothing.
+use borrow.Author.Needs.{needs}
+use Rattle.trie.proofs.asking.rank_next.Statement.{statement}
+use Rattle.trie.proofs.asking.rank_next.Tie as tie
+use Rattle.trie.proofs.asking.rank_next.Reads as reads
+use Rattle.trie.proofs.asking.rank_next.Lts as lts
+use Rattle.trie.proofs.asking.go_on.Reads as go-on-reads
+
+-- src/asking.rt:181:48
+add-t12 : tie.Need-add-t12
+add-t12 c = search needs
+
+-- src/asking.rt:181:9
+go-on-requires : tie.Need-go-on-requires
+go-on-requires c κs = search needs
+
+-- src/asking.rt:174:1
+returns : tie.Need-returns
+returns c = simp (c .if1 .taken)
+
+-- src/asking.rt:174:1
+returns-2 : tie.Need-returns-2
+returns-2 c = simp (c .before .if1 .left, c .go-on .ensures)
+
+pub rank-next-spec : {M : Type 1} → statement M
+rank-next-spec = tie.close (tie.spec add-t12 go-on-requires returns returns-2)

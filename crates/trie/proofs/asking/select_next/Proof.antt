@@ -1,0 +1,32 @@
+-- `trie::asking::select_next` meets its contract.
+-- Assumes nothing.
+use borrow.Author.Needs.{needs}
+use Rattle.trie.proofs.asking.select_next.Statement.{statement}
+use Rattle.trie.proofs.asking.select_next.Tie as tie
+use Rattle.trie.proofs.asking.select_next.Reads as reads
+use Rattle.trie.proofs.asking.select_next.Lts as lts
+use Rattle.trie.proofs.asking.cell_at.Reads as cell-at-reads
+use Rattle.trie.proofs.asking.go_on.Reads as go-on-reads
+
+-- src/asking.rt:228:44
+cell-at-requires : tie.Need-cell-at-requires
+cell-at-requires c κs = search needs
+
+-- src/asking.rt:230:50
+add-t13 : tie.Need-add-t13
+add-t13 c = search needs
+
+-- src/asking.rt:230:9
+go-on-requires : tie.Need-go-on-requires
+go-on-requires c κs = search needs
+
+-- src/asking.rt:223:1
+returns : tie.Need-returns
+returns c = simp (c .before .if1 .taken, c .cell-at .ensures)
+
+-- src/asking.rt:223:1
+returns-2 : tie.Need-returns-2
+returns-2 c = simp (c .before .if1 .left, c .go-on .ensures)
+
+pub select-next-spec : {M : Type 1} → statement M
+select-next-spec = tie.close (tie.spec cell-at-requires add-t13 go-on-requires returns returns-2)

@@ -1,0 +1,44 @@
+-- `trie::record::operation_fits` meets its contract.
+-- Assumes nothing.
+use borrow.Author.Needs.{needs}
+use Rattle.trie.proofs.record.operation_fits.Statement.{statement}
+use Rattle.trie.proofs.record.operation_fits.Tie as tie
+use Rattle.trie.proofs.record.operation_fits.Reads as reads
+use Rattle.trie.proofs.record.operation_fits.Lts as lts
+use Rattle.trie.proofs.record.query_fits.Reads as query-fits-reads
+use Rattle.trie.proofs.record.update_fits.Reads as update-fits-reads
+
+-- src/record.rt:71:27
+enum-known-o : tie.Need-enum-known-o
+enum-known-o c = search needs
+
+-- src/record.rt:71:33
+update-fits-requires : tie.Need-update-fits-requires
+update-fits-requires c κs = search needs
+
+-- src/record.rt:72:26
+enum-known-o-2 : tie.Need-enum-known-o-2
+enum-known-o-2 c = search needs
+
+-- src/record.rt:72:32
+query-fits-requires : tie.Need-query-fits-requires
+query-fits-requires c κs = search needs
+
+-- src/record.rt:67:1
+returns : tie.Need-returns
+returns c = simp (c .before .before .o .given .1, c .update-fits .ensures)
+
+-- src/record.rt:67:1
+returns-2 : tie.Need-returns-2
+returns-2 c = simp (c .before .before .o2 .given .1, c .query-fits .ensures)
+
+pub operation-fits-spec : {M : Type 1} → statement M
+operation-fits-spec =
+    tie.close
+    (tie.spec
+    enum-known-o
+    update-fits-requires
+    enum-known-o-2
+    query-fits-requires
+    returns
+    returns-2)

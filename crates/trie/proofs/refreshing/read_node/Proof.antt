@@ -1,0 +1,35 @@
+-- `trie::refreshing::read_node` meets its contract.
+-- Assumes nothing.
+use mathlib.Core.Path.{sym, _∙_}
+use borrow.Author.Needs.{needs}
+use Rattle.trie.proofs.refreshing.read_node.Statement.{statement}
+use Rattle.trie.proofs.refreshing.read_node.Tie as tie
+use Rattle.trie.proofs.refreshing.read_node.Reads as reads
+use Rattle.trie.proofs.refreshing.read_node.Lts as lts
+use Rattle.trie.proofs.refreshing.hold.Reads as hold-reads
+use Rattle.trie.proofs.sound.is_sound_in.Reads as is-sound-in-reads
+use Rattle.trie.proofs.tables.word.Reads as word-reads
+
+-- src/refreshing.rt:110:27
+word-requires : tie.Need-word-requires
+word-requires c κs = search needs
+
+-- src/refreshing.rt:111:8
+is-sound-in-requires : tie.Need-is-sound-in-requires
+is-sound-in-requires c κs = search needs
+
+-- src/refreshing.rt:112:9
+hold-requires : tie.Need-hold-requires
+hold-requires c κs = search needs
+
+-- src/refreshing.rt:106:1
+returns : tie.Need-returns
+returns c = simp (← c .before .before .before .word .ensures, sym (c .before .before .is-sound-in .ensures) ∙ c .before .if1 .taken, c .hold .ensures)
+
+-- src/refreshing.rt:106:1
+returns-2 : tie.Need-returns-2
+returns-2 c = simp (← c .before .before .word .ensures, sym (c .before .is-sound-in .ensures) ∙ c .if1 .left)
+
+pub read-node-spec : {M : Type 1} → statement M
+read-node-spec =
+    tie.close (tie.spec word-requires is-sound-in-requires hold-requires returns returns-2)

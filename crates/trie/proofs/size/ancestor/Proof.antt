@@ -1,0 +1,25 @@
+-- `trie::size::ancestor` meets its contract: a number below 2 ^ 64 has no digits past the sixty-fourth.
+-- Assumes nothing.
+use mathlib.Core.Path.{sym}
+use native.Mathlib.Nat.{div-eq-of-lt, lt-of-lt-of-le}
+use lib.Pow.{pow-mono}
+use borrow.Author.Needs.{needs}
+use Rattle.trie.proofs.size.ancestor.Statement.{statement}
+use Rattle.trie.proofs.size.ancestor.Tie as tie
+use Rattle.trie.proofs.size.ancestor.Reads as reads
+use Rattle.trie.proofs.size.ancestor.Lts as lts
+
+-- src/size.rt:24:9
+returns : tie.Need-returns
+returns c = sym (div-eq-of-lt (lt-of-lt-of-le (c .before .fits .x .fits) (pow-mono (c .if1 .taken))))
+
+-- src/size.rt:26:5
+shr-result : tie.Need-shr-result
+shr-result c = search needs
+
+-- src/size.rt:20:1
+returns-2 : tie.Need-returns-2
+returns-2 c = search needs
+
+pub ancestor-spec : {M : Type 1} → statement M
+ancestor-spec = tie.close (tie.spec returns shr-result returns-2)

@@ -1,0 +1,20 @@
+-- `trie::sound::is_sound` meets its contract.
+-- Assumes nothing.
+use Rattle.trie.specs.Sound.{soundAt}
+use Rattle.trie.proofs.sound.is_sound.Statement.{statement}
+use Rattle.trie.proofs.sound.is_sound.Tie as tie
+use Rattle.trie.proofs.sound.is_sound.Reads as reads
+use Rattle.trie.proofs.sound.is_sound.Lts as lts
+
+-- src/sound.rt:38:1
+returns : tie.Need-returns
+unfolding soundAt
+returns c = simp (c .before .before .before .before .before .before .before .before .if1 .taken)
+
+-- src/sound.rt:38:1
+returns-2 : tie.Need-returns-2
+unfolding soundAt
+returns-2 c = simp (c .before .before .before .before .before .before .before .before .before .before .before .if1 .left)
+
+pub is-sound-spec : {M : Type 1} → statement M
+is-sound-spec = tie.close (tie.spec returns returns-2)

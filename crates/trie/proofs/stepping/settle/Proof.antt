@@ -1,0 +1,32 @@
+-- `trie::stepping::settle` meets its contract.
+-- Assumes nothing.
+use borrow.Author.Needs.{needs}
+use Rattle.trie.proofs.stepping.settle.Statement.{statement}
+use Rattle.trie.proofs.stepping.settle.Tie as tie
+use Rattle.trie.proofs.stepping.settle.Reads as reads
+use Rattle.trie.proofs.stepping.settle.Lts as lts
+use Rattle.trie.proofs.record.rested.Reads as rested-reads
+
+-- src/stepping.rt:58:18
+enum-known-next : tie.Need-enum-known-next
+enum-known-next c = search needs
+
+-- src/stepping.rt:59:20
+enum-known-next-2 : tie.Need-enum-known-next-2
+enum-known-next-2 c = search needs
+
+-- src/stepping.rt:59:71
+rested-requires : tie.Need-rested-requires
+rested-requires c κs = search needs
+
+-- src/stepping.rt:54:1
+returns : tie.Need-returns
+returns c = simp (c .before .next .given .1)
+
+-- src/stepping.rt:54:1
+returns-2 : tie.Need-returns-2
+returns-2 c = simp (c .before .before .next2 .given .1, c .rested .ensures)
+
+pub settle-spec : {M : Type 1} → statement M
+settle-spec =
+    tie.close (tie.spec enum-known-next enum-known-next-2 rested-requires returns returns-2)

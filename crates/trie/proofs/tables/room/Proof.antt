@@ -1,0 +1,21 @@
+-- `trie::tables::room` meets its contract.
+-- Assumes nothing.
+use borrow.Author.Tests.{le-leb, lt-leb}
+use Rattle.trie.specs.Tables.{roomOf}
+use Rattle.trie.proofs.tables.room.Statement.{statement}
+use Rattle.trie.proofs.tables.room.Tie as tie
+use Rattle.trie.proofs.tables.room.Reads as reads
+use Rattle.trie.proofs.tables.room.Lts as lts
+
+-- src/tables.rt:76:1
+returns : tie.Need-returns
+unfolding roomOf
+returns c = simp (le-leb _ _ (c .if1 .taken))
+
+-- src/tables.rt:76:1
+returns-2 : tie.Need-returns-2
+unfolding roomOf
+returns-2 c = simp (lt-leb _ _ (c .if1 .left))
+
+pub room-spec : {M : Type 1} → statement M
+room-spec = tie.close (tie.spec returns returns-2)

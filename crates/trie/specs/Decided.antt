@@ -1,0 +1,83 @@
+-- An answer is known by what it tells: each contract leaves one answer and one state of all that is lent.
+-- Assumes nothing.
+use mathlib.Core.Path.{_≡_, refl, sym, ap, _∙_}
+use mathlib.Core.List.{List}
+use Prim.Native.Nat.{ℕ}
+use native.Mathlib.Omega.{arith}
+use Rattle.trie.specs.declared.Answer.{Answer}
+use Rattle.trie.specs.declared.Accepted.{Accepted}
+use Rattle.trie.specs.declared.Progress.{Progress}
+use Rattle.trie.specs.declared.Worker.{Worker}
+use Rattle.trie.specs.Values.{Value, Ok, Course, valueOf, acceptedOf, progressOf}
+use Rattle.trie.specs.Starting.{Started}
+use Rattle.trie.specs.Stepping.{Stepped}
+use Rattle.trie.specs.Calls.{State, After, after}
+
+-- the answer back from its value
+back : Value → Answer
+back Value.yes′ = Answer.Yes
+back Value.no′ = Answer.No
+back Value.none = Answer.None
+back (Value.level l) = Answer.Level (record { 0 = l })
+back (Value.cell k) = Answer.Cell k
+back (Value.sums c e) = Answer.Sums c (record { 0 = e })
+
+back-value : (a : Answer) → back (valueOf a) ≡ a
+unfolding back
+back-value Answer.Yes = refl
+back-value Answer.No = refl
+back-value Answer.None = refl
+back-value (Answer.Level l) = refl
+back-value (Answer.Cell k) = refl
+back-value (Answer.Sums c e) = refl
+
+pub value-one : (a b : Answer) → valueOf a ≡ valueOf b → a ≡ b
+value-one a b e = sym (back-value a) ∙ ap back e ∙ back-value b
+
+pub accepted-one : (a b : Accepted) → acceptedOf a ≡ acceptedOf b → a ≡ b
+accepted-one (Accepted.Refused k) (Accepted.Refused j) e = ap Accepted.Refused (cc)
+accepted-one (Accepted.Refused k) Accepted.Ok e = absurd (let z : _≡_ {A = ℕ} 0 1 = cc in omega arith)
+accepted-one Accepted.Ok (Accepted.Refused j) e = absurd (let z : _≡_ {A = ℕ} 0 1 = cc in omega arith)
+accepted-one Accepted.Ok Accepted.Ok e = refl
+
+pub progress-one : (a b : Progress) → progressOf a ≡ progressOf b → a ≡ b
+progress-one (Progress.Refused k) (Progress.Refused j) e = ap Progress.Refused (cc)
+progress-one (Progress.Refused k) Progress.On e = absurd (let z : _≡_ {A = ℕ} 0 1 = cc in omega arith)
+progress-one (Progress.Refused k) (Progress.Done b) e = absurd (let z : _≡_ {A = ℕ} 0 1 = cc in omega arith)
+progress-one Progress.On (Progress.Refused j) e = absurd (let z : _≡_ {A = ℕ} 0 1 = cc in omega arith)
+progress-one Progress.On Progress.On e = refl
+progress-one Progress.On (Progress.Done b) e = absurd (let z : _≡_ {A = ℕ} 0 1 = cc in omega arith)
+progress-one (Progress.Done a) (Progress.Refused j) e = absurd (let z : _≡_ {A = ℕ} 0 1 = cc in omega arith)
+progress-one (Progress.Done a) Progress.On e = absurd (let z : _≡_ {A = ℕ} 0 1 = cc in omega arith)
+progress-one (Progress.Done a) (Progress.Done b) e = ap Progress.Done (value-one a b (cc))
+
+-- ---- the records
+
+abbrev pub started : Accepted → Worker → Started
+started a w = record { told = acceptedOf a; worker = w }
+
+abbrev pub stepped : Progress → Worker → List ℕ → List ℕ → Stepped
+stepped a w nodes versions = record { told = progressOf a; worker = w; nodes = nodes; versions = versions }
+
+-- whatever start of a record is to come to, as `startRecordOf n o promised w nodes versions`, is come to in one way
+pub start-decided : (r : Started) (a b : Accepted) (v w : Worker) → started a v ≡ r → started b w ≡ r → (a ≡ b) × (v ≡ w)
+start-decided r a b v w p q = (accepted-one a b (ap (λ (s : Started). s .told) (p ∙ sym q)), ap (λ (s : Started). s .worker) (p ∙ sym q))
+
+pub step-decided : (r : Stepped) (a b : Progress) (v w : Worker) (nodes nodes′ versions versions′ : List ℕ) → stepped a v nodes versions ≡ r → stepped b w nodes′ versions′ ≡ r
+    → (a ≡ b) × (v ≡ w) × (nodes ≡ nodes′) × (versions ≡ versions′)
+step-decided r a b v w nodes nodes′ versions versions′ p q = (
+  progress-one a b (ap (λ (s : Stepped). s .told) (p ∙ sym q)),
+  ap (λ (s : Stepped). s .worker) (p ∙ sym q),
+  ap (λ (s : Stepped). s .nodes) (p ∙ sym q),
+  ap (λ (s : Stepped). s .versions) (p ∙ sym q),
+)
+
+-- ---- the calls
+
+-- open and start: `openOf n w s`, `startOf n w i o s`
+pub accepted-decided : (r : After Ok) (a b : Accepted) (s t : State) → after (acceptedOf a) s ≡ r → after (acceptedOf b) t ≡ r → (a ≡ b) × (s ≡ t)
+accepted-decided r a b s t p q = (accepted-one a b (ap (λ (c : After Ok). c .told) (p ∙ sym q)), ap (λ (c : After Ok). c .state) (p ∙ sym q))
+
+-- step: `stepOf n w i s`
+pub progress-decided : (r : After Course) (a b : Progress) (s t : State) → after (progressOf a) s ≡ r → after (progressOf b) t ≡ r → (a ≡ b) × (s ≡ t)
+progress-decided r a b s t p q = (progress-one a b (ap (λ (c : After Course). c .told) (p ∙ sym q)), ap (λ (c : After Course). c .state) (p ∙ sym q))

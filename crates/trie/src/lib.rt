@@ -1,0 +1,174 @@
+// The tree of cells: what its tables hold, what a worker's record holds, and what a call answers.
+// Node and version numbers, levels and energies are types of their own, so that none stands in for another.
+mod asking;
+mod leaf;
+mod opening;
+mod record;
+mod refreshing;
+mod size;
+mod sound;
+mod starting;
+mod stepping;
+mod tables;
+
+use decibel::Energy;
+use decibel::Level;
+
+// The root is 1, the children of x are 2x and 2x + 1, and cell k is node N + k.
+pub struct NodeNumber(pub u64);
+
+// Versions are numbered from 1; a leaf's version has 0 for left and right.
+pub struct VersionNumber(pub u64);
+
+pub struct Version {
+    pub left: VersionNumber,
+    pub right: VersionNumber,
+    pub count: u64,
+    pub energy: Energy,
+    pub level: Level,
+}
+
+// A change of one cell.
+pub enum Update {
+    Insert(u64, Level),
+    Delete(u64),
+}
+
+pub enum Query {
+    Find(u64),
+    Select(u64),
+    Rank(u64),
+    Total,
+}
+
+pub enum Operation {
+    Update(Update),
+    Query(Query),
+}
+
+// An update on its way up: its result, the inner node at which it is, whether this is its second refresh there, and the versions that it has made.
+pub struct Climb {
+    pub update: Update,
+    pub yes: bool,
+    pub node: NodeNumber,
+    pub second: bool,
+    pub made: u64,
+}
+
+// What the present refresh has read: the node's version, then the left child's, then the right child's.
+pub enum Held {
+    Nothing,
+    Node(VersionNumber),
+    Left(VersionNumber, VersionNumber),
+    Both(VersionNumber, VersionNumber, VersionNumber),
+}
+
+// Where a query stands: so many levels below the root, at this version. It has done one step more than its depth.
+pub struct Standing {
+    pub depth: u64,
+    pub version: VersionNumber,
+}
+
+// What a worker does next, with no more than it knows by then.
+pub enum Phase {
+    Idle,
+    Read(Update),
+    Swap(Update, VersionNumber),
+    Refresh(Climb, Held),
+    Ask(Query),
+    Find(u64, Standing),
+    Rank(u64, Standing, u64, Energy),
+    Select(u64, Standing, NodeNumber, u64),
+}
+
+pub struct Worker {
+    pub phase: Phase,
+}
+
+// What an operation answers.
+pub enum Answer {
+    Yes,
+    No,
+    None,
+    Level(Level),
+    Cell(u64),
+    Sums(u64, Energy),
+}
+
+// What open and start answer.
+pub enum Accepted {
+    Refused(u64),
+    Ok,
+}
+
+// What a step answers.
+pub enum Progress {
+    Refused(u64),
+    On,
+    Done(Answer),
+}
+
+// A worker after its step: under way, or idle with its answer given.
+pub enum Next {
+    On(Worker),
+    Done(Answer),
+}
+
+// What a step is going to do, before anything is written.
+pub enum Plan {
+    Damaged,
+    Keep(Next),
+    Put(VersionNumber, NodeNumber, Version, Next),
+}
+
+// What the busy updates of the board may still make; or one of them has made too many.
+pub enum Promised {
+    Damaged,
+    Of(u64),
+}
+
+// The numbers that a step is judged by: N, h, N times 10^9, 1 + h, the versions used, and V.
+pub struct Bounds {
+    pub cells: u64,
+    pub height: u64,
+    pub energy: u64,
+    pub share: u64,
+    pub used: u64,
+    pub room: u64,
+}
+
+// The two children of the version at which a query stands, and whether they are leaves.
+pub struct Fork {
+    pub left: VersionNumber,
+    pub at_left: Version,
+    pub right: VersionNumber,
+    pub at_right: Version,
+    pub last: bool,
+}
+
+pub enum Seen {
+    Unsound,
+    Sound(Fork),
+}
+
+// A running sum: within its bound, or past it.
+pub enum Reached {
+    Past,
+    Of(u64),
+}
+
+// A record after a step, and what the step answers.
+pub struct Moved {
+    pub progress: Progress,
+    pub worker: Worker,
+}
+
+// A record after a start, and what the start answers.
+pub struct Begun {
+    pub accepted: Accepted,
+    pub worker: Worker,
+}
+
+pub use opening::open_tables;
+pub use starting::start_record;
+pub use stepping::step_record;
