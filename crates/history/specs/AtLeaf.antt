@@ -18,7 +18,7 @@ use Rattle.history.specs.Base.{Side, lo, hi, Node, Node-discrete, Below,
 use Rattle.history.specs.Numbers.{place, length-leaf, place-leaf}
 use Rattle.history.specs.Book.{fits, want, mark}
 use Rattle.history.specs.Arrivals.{Op, Entry, entry, refused, others, swapBrings}
-use Rattle.history.specs.Put.{put-all, put-same}
+use Rattle.history.specs.PutLaws.{put-all, put-same}
 use Rattle.history.specs.Machine.{child, leafVersion, Shared, Climb, swapping, reading, at, cell, goUp, note, wait, leafSwap, leafRead, leafTry}
 use Rattle.history.specs.Replay.{after-fits, after-want, fits-flip, run, Ok, run-append, ok-append, run-refused, ok-refused, mem-refused, all-refused, all-others, mem-others, only, view, only-append, only-all, NoneOf, Distinct, dist-nil, dist-cons, distinct-append, DistinctOps, ops-nil, ops-snoc, none-others, distinct-others}
 use Rattle.history.specs.Invariant.{Closed, Depicts, Absent, Known, SpotOk, LeafOk}
@@ -70,7 +70,7 @@ module _ (h : ℕ) (weight : ℕ → ℕ) where
         (leaf-spot (grow-note o) (cell h o) s (at G (cell h o) .current) (at G (cell h o) .waiting) d a (sym (ap not fit), tt) (sp (cell h o) .current-le)
         (depicts-cong h weight (λ k b l. same-view k (below-same b (l ∙ sym d))) (sp (cell h o) .depicts)) waits′
         (all-cons kn all-nil) (dist-cons all-nil dist-nil) (all-cons (ab .reached) all-nil) (sp (cell h o) .once-waiting))
-        (λ y n. spot-grow h weight cl (grow-note o) y (at G y) (sp y))
+        (λ y n. spot-grow h weight (grow-note o) y (at G y) (sp y))
       where
         d : length (cell h o) ≡ h
         d = length-leaf h (cellOf (o .update))
@@ -96,10 +96,10 @@ module _ (h : ℕ) (weight : ℕ → ℕ) where
         (λ q l j z. record { reached = z .reached; waiting = all-append (z .waiting) (all-cons (λ e. j (sym e)) all-nil) })
 
     spot-wait : (o : Op) → Known h G o → Absent (o .id) (at G (cell h o)) → fits (o .update) (mark (G .ver (at G (cell h o) .current))) ≡ false → (y : Node) → SpotOk h weight (wait h G o) y (at (wait h G o) y)
-    spot-wait o kn ab f = put-all Node-discrete (λ y a. SpotOk h weight (wait h G o) y a) (G .spot) (cell h o) _ here (λ y n. spot-grow h weight cl (grow-wait o) y (at G y) (sp y))
+    spot-wait o kn ab f = put-all Node-discrete (λ y a. SpotOk h weight (wait h G o) y a) (G .spot) (cell h o) _ here (λ y n. spot-grow h weight (grow-wait o) y (at G y) (sp y))
       where
         old : SpotOk h weight (wait h G o) (cell h o) (at G (cell h o))
-        old = spot-grow h weight cl (grow-wait o) (cell h o) (at G (cell h o)) (sp (cell h o))
+        old = spot-grow h weight (grow-wait o) (cell h o) (at G (cell h o)) (sp (cell h o))
 
         here : SpotOk h weight (wait h G o) (cell h o) (record { current = at G (cell h o) .current; reached = at G (cell h o) .reached; taken = at G (cell h o) .taken; waiting = at G (cell h o) .waiting ++ (o ∷ []) })
         here =
@@ -158,7 +158,7 @@ module _ (h : ℕ) (weight : ℕ → ℕ) where
       swapped-run = ap (λ m. run m (refused (others (o .id) (at G (cell h o) .waiting)))) (after-want (o .update) was able-was) ∙ run-refused _ _ (all-map (λ q p. p .1) pend-cells)
 
       grow-leaf : Grow h weight (NotMe o) NoK G (leafSwap h weight G o)
-      grow-leaf = grow-swap h weight G (NotMe o) NoK (cell h o) (leafVersion weight (want (o .update))) swapped (at G (cell h o) .taken)
+      grow-leaf = grow-swap h weight G cl (NotMe o) NoK (cell h o) (leafVersion weight (want (o .update))) swapped (at G (cell h o) .taken)
           (leaf (omega arith) (length-leaf h (cellOf (o .update))) (λ q m j. Memᴰ·append-right (at G (cell h o) .reached) (List·Memᴰ·tail (mem-refused (mem-others (o .id) j m)))))
           (λ q l j z. all-cons (λ p. j (sym p)) (all-refused (all-others (o .id) (z .waiting))))
 
@@ -178,7 +178,7 @@ module _ (h : ℕ) (weight : ℕ → ℕ) where
           swapped-known
           (dist-cons (all-refused (none-others (o .id) (at G (cell h o) .waiting))) (distinct-others (o .id) (sp (cell h o) .once-waiting)))
           (all-cons (all-at (sp (cell h o) .able) (ok .waits e) .3) (all-refused (all-others (o .id) (all-map (λ q p. p .3) (sp (cell h o) .able))))) ops-nil)
-          (λ y n. spot-grow h weight cl grow-leaf y (at G y) (sp y))
+          (λ y n. spot-grow h weight grow-leaf y (at G y) (sp y))
 
       leaf-step : Step h weight G (swapping o v) (leafSwap h weight G o, goUp o true 1 (cell h o))
       leaf-step =

@@ -12,11 +12,12 @@ use lib.ListN.{length}
 use Rattle.trie.specs.declared.Version.{Version}
 use Rattle.history.specs.Base.{Side, Node, Node-discrete, Below, _∈_, Prefix, prefix-refl, prefix-append, all-nil, all-append}
 use Rattle.history.specs.Arrivals.{Op, Entry, entry}
-use Rattle.history.specs.Put.{put, put-all, put-other}
+use Rattle.history.specs.Put.{put}
+use Rattle.history.specs.PutLaws.{put-all, put-other}
 use Rattle.history.specs.Machine.{child, Spot, Shared, Stage, nothing, Climb, Worker, idle, reading, swapping, climbing, answered, at, cell, goUp, withSpot, swap}
 use Rattle.history.specs.Replay.{NoneOf}
 use Rattle.history.specs.Invariant.{Closed, Absent, Known, PairOk, OnClimb, OnOp, Pair, Apart, SpotOk, WorkerOk}
-use Rattle.history.specs.Depicting.{Same}
+use Rattle.history.specs.Depicting.{Same, same-stable}
 use Rattle.history.specs.Growth.{Change, kept, Grow, Step, onop-map}
 
 pub onclimb-all : (P : Climb → Stage → Type 0) → ((c : Climb) (st : Stage) → P c st) → (W : Worker) → OnClimb P W
@@ -84,7 +85,7 @@ module _ (h : ℕ) (weight : ℕ → ℕ) where
     grow-spot J K x a p c f =
         record {
           more = le-refl (G .used);
-          same = λ v l. refl;
+          stable = λ v l t. refl;
           grows = put-all Node-discrete (λ y b. Prefix (at G y .reached) (b .reached)) (G .spot) x a p (λ y n. prefix-refl (at G y .reached));
           change = put-all Node-discrete (λ y b. Change h weight (G .used) J K y (at G y) b) (G .spot) x a c (λ y n. kept refl (λ b. refl) (λ o m. m));
           nexts = le-refl (G .next);
@@ -92,13 +93,13 @@ module _ (h : ℕ) (weight : ℕ → ℕ) where
           absent = λ o. put-all Node-discrete (λ y b. length y ≡ h → J o → Absent (o .id) (at G y) → Absent (o .id) b) (G .spot) x a (f o) (λ y n l j q. q);
         }
 
-    pub grow-swap : (J : Op → Type 0) (K : Climb → Type 0) (x : Node) (w : Version) (s : List Entry) (f : Side → List Entry)
+    pub grow-swap : Closed (G .ver) (G .used) → (J : Op → Type 0) (K : Climb → Type 0) (x : Node) (w : Version) (s : List Entry) (f : Side → List Entry)
         → Change h weight (G .used) J K x (at G x) (record { current = suc (G .used); reached = at G x .reached ++ s; taken = f; waiting = [] })
         → ((o : Op) → length x ≡ h → J o → Absent (o .id) (at G x) → NoneOf (o .id) s) → Grow h weight J K G (swap G x w s f)
-    grow-swap J K x w s f c z =
+    grow-swap cl J K x w s f c z =
         record {
           more = omega arith;
-          same = same-swap (G .ver) (G .used) w;
+          stable = same-stable (G .ver) (put ℕ-discrete (G .ver) (suc (G .used)) w) (G .used) cl (same-swap (G .ver) (G .used) w);
           grows = put-all Node-discrete (λ y b. Prefix (at G y .reached) (b .reached)) (G .spot) x _ (prefix-append (at G x .reached) s) (λ y n. prefix-refl (at G y .reached));
           change = put-all Node-discrete (λ y b. Change h weight (G .used) J K y (at G y) b) (G .spot) x _ c (λ y n. kept refl (λ b. refl) (λ o m. m));
           nexts = le-refl (G .next);
@@ -109,7 +110,7 @@ module _ (h : ℕ) (weight : ℕ → ℕ) where
 
     pub grow-none : Grow h weight NoJ NoK G G
     grow-none =
-        record { more = le-refl (G .used); same = λ v l. refl; grows = λ y. prefix-refl (at G y .reached); change = λ y. kept refl (λ b. refl) (λ o m. m); nexts = le-refl (G .next); knew = λ o k. k; absent = λ o y l j q. q }
+        record { more = le-refl (G .used); stable = λ v l t. refl; grows = λ y. prefix-refl (at G y .reached); change = λ y. kept refl (λ b. refl) (λ o m. m); nexts = le-refl (G .next); knew = λ o k. k; absent = λ o y l j q. q }
 
     pub make : (J : Op → Type 0) (K : Climb → Type 0) (W : Worker) (G′ : Shared) (W′ : Worker) → ((P : Op → Type 0) → OnOp P W → OnOp P W′)
         → OnOp (Known h G) W → Closed (G′ .ver) (G′ .used) → ((y : Node) → SpotOk h weight G′ y (at G′ y)) → Grow h weight J K G G′

@@ -12,7 +12,8 @@ use Rattle.trie.specs.declared.Query.{Query}
 use Rattle.trie.specs.declared.Operation.{Operation}
 use Rattle.history.specs.Base.{_∈_, All, all-head, all-tail, all-map, all-append, all-at}
 use Rattle.history.specs.Arrivals.{Op, Entry}
-use Rattle.history.specs.Put.{put, put-all, put-other}
+use Rattle.history.specs.Put.{put}
+use Rattle.history.specs.PutLaws.{put-all, put-other}
 use Rattle.history.specs.Order.{Placed, placed, Answered, Life, life, Task, Memory, memory, begin}
 use Rattle.history.specs.Theorem.{Once, Stands, Before, mostSteps, InTime}
 

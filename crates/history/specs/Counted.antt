@@ -50,12 +50,12 @@ module _ (h : ℕ) where
     left-try o v (no n) = omega (arith, left-cell o false 0)
 
     left-missed : (c : Climb) (a : Bool) → stepsLeft (missed a c) ≤ 8 * length (c .node) + leftAfter a
-    left-missed c false = omega arith
+    left-missed c false = omega (arith, left-up (c .op) (c .res) (c .made) (c .node))
     left-missed c true = omega (arith, left-up (c .op) (c .res) (c .made) (c .node))
 
     left-node : (c : Climb) (v l : ℕ) (s : List Entry) (r : ℕ) (t : List Entry) (d : Dec (at G (c .node) .current ≡ v)) → stepsLeft (nodeTry d G c l s r t .1) ≤ 8 * length (c .node) + leftAfter (c .again)
     left-node c v l s r t (yes e) = omega (arith, left-up (c .op) (c .res) (suc (c .made)) (c .node))
-    left-node c v l s r t (no n) = left-missed c (c .again)
+    left-node c v l s r t (no n) = omega (arith, left-missed c (c .again))
 
     -- an update under way has steps left, and its step takes one away
     pub left-step : (W : Worker) → 1 ≤ stepsLeft W → suc (stepsLeft (stepW h weight G W .1)) ≤ stepsLeft W

@@ -19,13 +19,21 @@ use Rattle.history.specs.Invariant.{tally, Closed, Inner, Depicts}
 abbrev pub Same : ℕ → (ℕ → Version) → (ℕ → Version) → Type 0
 Same u ver ver′ = (v : ℕ) → v ≤ u → ver′ v ≡ ver v
 
-pub look-le : (ver : ℕ → Version) (u : ℕ) → Closed ver u → (t : List Side) (v : ℕ) → v ≤ u → look ver t v ≤ u
+-- all that is reached from v is in ver′ as it was in ver
+abbrev pub Stable : (ℕ → Version) → (ℕ → Version) → ℕ → Type 0
+Stable ver ver′ v = (t : List Side) → ver′ (look ver t v) ≡ ver (look ver t v)
+
+look-stable : (ver ver′ : ℕ → Version) (t : List Side) (v : ℕ) → Stable ver ver′ v → look ver′ t v ≡ look ver t v
+look-stable ver ver′ [] v s = refl
+look-stable ver ver′ (b ∷ t) v s = ap (λ n. look ver′ t (child b n)) (s []) ∙ look-stable ver ver′ t (child b (ver v)) (λ r. s (b ∷ r))
+
+look-le : (ver : ℕ → Version) (u : ℕ) → Closed ver u → (t : List Side) (v : ℕ) → v ≤ u → look ver t v ≤ u
 look-le ver u c [] v l = l
 look-le ver u c (b ∷ t) v l = look-le ver u c t (child b (ver v)) (c v l b)
 
-pub look-same : (ver ver′ : ℕ → Version) (u : ℕ) → Closed ver u → Same u ver ver′ → (t : List Side) (v : ℕ) → v ≤ u → look ver′ t v ≡ look ver t v
-look-same ver ver′ u c e [] v l = refl
-look-same ver ver′ u c e (b ∷ t) v l = ap (λ n. look ver′ t (child b n)) (e v l) ∙ look-same ver ver′ u c e t (child b (ver v)) (c v l b)
+-- where no version up to u is changed, nothing is that is reached from one of them
+pub same-stable : (ver ver′ : ℕ → Version) (u : ℕ) → Closed ver u → Same u ver ver′ → (v : ℕ) → v ≤ u → Stable ver ver′ v
+same-stable ver ver′ u c e v l t = e (look ver t v) (look-le ver u c t v l)
 
 pub mark-leaf-version : (weight : ℕ → ℕ) (m : Option ℕ) → mark (leafVersion weight m) ≡ m
 mark-leaf-version weight none = refl
@@ -48,8 +56,8 @@ module _ (h : ℕ) (weight : ℕ → ℕ) where
         energies = λ t d e. p .energies t d e ∙ tally-cong (weights weight) d (down t y) (view s) (view s′) (λ k b. g k (below-down t b)) e;
       }
 
-  pub depicts-ver : {ver ver′ : ℕ → Version} {u : ℕ} {y : Node} {v : ℕ} {s : List Entry} → Closed ver u → Same u ver ver′ → v ≤ u → Depicts h weight ver y v s → Depicts h weight ver′ y v s
-  depicts-ver {ver} {ver′} {u} {y} {v} {s} c e l p =
+  pub depicts-ver : {ver ver′ : ℕ → Version} {y : Node} {v : ℕ} {s : List Entry} → Stable ver ver′ v → Depicts h weight ver y v s → Depicts h weight ver′ y v s
+  depicts-ver {ver} {ver′} {y} {v} {s} e p =
       record {
         numbered = p .numbered;
         leaves = λ t k. at-look t ∙ p .leaves t k;
@@ -59,7 +67,7 @@ module _ (h : ℕ) (weight : ℕ → ℕ) where
       }
     where
       at-look : (t : List Side) → ver′ (look ver′ t v) ≡ ver (look ver t v)
-      at-look t = ap ver′ (look-same ver ver′ u c e t v l) ∙ e (look ver t v) (look-le ver u c t v l)
+      at-look t = ap ver′ (look-stable ver ver′ t v e) ∙ e t
 
   -- a version of an inner node shows what its children show
   pub depicts-join : (ver : ℕ → Version) (x : Node) (v : ℕ) (s : List Entry) → 1 ≤ v → length x < h → Inner (ver v) → ((b : Side) → Depicts h weight ver (b ∷ x) (child b (ver v)) s)

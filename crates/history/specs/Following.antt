@@ -21,7 +21,8 @@ use Rattle.history.specs.Base.{lo, hi, Node, Node-discrete, below-length
 use Rattle.history.specs.Numbers.{number, number-pos, number-inj, number-leaf, length-leaf}
 use Rattle.history.specs.Book.{fits, mark}
 use Rattle.history.specs.Arrivals.{Op, Entry, entry, swapBrings, refreshBrings}
-use Rattle.history.specs.Put.{put, put-all, put-same, put-other}
+use Rattle.history.specs.Put.{put}
+use Rattle.history.specs.PutLaws.{put-all, put-same, put-other}
 use Rattle.history.specs.Order.{Task, Memory, places, read, opOf, readsLeaf, swapsLeaf, swapsNode, advance}
 use Rattle.history.specs.Machine.{Spot, Shared, Stage, nothing, atNode, atLeft, atBoth, Climb, Worker, idle, reading, swapping, climbing, answered, at, cell, goUp, missed, leafRead, leafTry, nodeTry, stepW}
 use Rattle.history.specs.Invariant.{Known, OnOp, WorkerOk}

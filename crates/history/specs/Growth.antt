@@ -14,10 +14,16 @@ use Rattle.history.specs.Base.{Side, lo, hi, Node, Below, below-length, 
 use Rattle.history.specs.Numbers.{length-leaf}
 use Rattle.history.specs.Book.{fits, mark}
 use Rattle.history.specs.Arrivals.{Op, Entry, entry}
-use Rattle.history.specs.Put.{put, put-all}
+use Rattle.history.specs.Put.{put}
+use Rattle.history.specs.PutLaws.{put-all}
 use Rattle.history.specs.Machine.{Spot, Shared, Stage, nothing, atNode, atLeft, atBoth, Climb, Worker, idle, reading, swapping, climbing, answered, State, at, cell, settled}
 use Rattle.history.specs.Invariant.{Closed, Absent, Known, its, Late, Knows, PairOk, OnClimb, OnOp, Pair, Apart, SpotOk, WasAt, HeldOk, SawOk, StageOk, LeafOk, WorkerOk, Inv}
-use Rattle.history.specs.Depicting.{Same, depicts-ver}
+use Rattle.history.specs.Depicting.{Stable, depicts-ver}
+
+-- the versions from which all that is reached stays as it is: here every version that is used, and where numbers are given
+-- out again, those that are current or held
+abbrev pub Lasting : Shared → ℕ → Type 0
+Lasting G v = v ≤ G .used
 
 module _ (h : ℕ) (weight : ℕ → ℕ) where
   -- at one node. J: the update is not the one that swaps; K: the swap has seen what the refresh has to put in place
@@ -28,16 +34,16 @@ module _ (h : ℕ) (weight : ℕ → ℕ) where
 
   pub record Grow (J : Op → Type 0) (K : Climb → Type 0) (G G′ : Shared) : Type 0 where
     pub more : G .used ≤ G′ .used
-    pub same : Same (G .used) (G .ver) (G′ .ver)
+    pub stable : (v : ℕ) → Lasting G v → Stable (G .ver) (G′ .ver) v
     pub grows : (y : Node) → Prefix (at G y .reached) (at G′ y .reached)
     pub change : (y : Node) → Change (G .used) J K y (at G y) (at G′ y)
     pub nexts : G .next ≤ G′ .next
     pub knew : (o : Op) → Known h G o → Known h G′ o
     pub absent : (o : Op) (y : Node) → length y ≡ h → J o → Absent (o .id) (at G y) → Absent (o .id) (at G′ y)
 
-  module _ {J : Op → Type 0} {K : Climb → Type 0} {G G′ : Shared} (closed : Closed (G .ver) (G .used)) (g : Grow J K G G′) where
+  module _ {J : Op → Type 0} {K : Climb → Type 0} {G G′ : Shared} (g : Grow J K G G′) where
     pub was-grow : (y : Node) (v : ℕ) → WasAt h weight G y v → WasAt h weight G′ y v
-    was-grow y v p = record { le = omega (arith, p .le, g .more); list = p .list; pre = prefix-trans (p .pre) (g .grows y); depicts = depicts-ver h weight closed (g .same) (p .le) (p .depicts) }
+    was-grow y v p = record { le = omega (arith, p .le, g .more); list = p .list; pre = prefix-trans (p .pre) (g .grows y); depicts = depicts-ver h weight (g .stable _ (p .le)) (p .depicts) }
 
     held-grow : (c : Climb) (v : ℕ) → Below (c .side ∷ c .node) (cell h (c .op)) → (c .again ≡ true → K c) → HeldOk h weight G c v → HeldOk h weight G′ c v
     held-grow c v below k p = record { was = was-grow (c .node) v (p .was); placed = λ e. go (g .change (c .node)) (p .placed e) e }
@@ -53,7 +59,7 @@ module _ (h : ℕ) (weight : ℕ → ℕ) where
     saw-grow c v b l s vle p =
         record {
           le = omega (arith, p .le, g .more);
-          depicts = depicts-ver h weight closed (g .same) (p .le) (p .depicts);
+          depicts = depicts-ver h weight (g .stable _ (p .le)) (p .depicts);
           pre = prefix-trans (p .pre) (g .grows (b ∷ c .node));
           taken = go (g .change (c .node));
           own = p .own;
@@ -74,7 +80,7 @@ module _ (h : ℕ) (weight : ℕ → ℕ) where
     leaf-grow o v j p =
         record {
           was = was-grow (cell h o) v (p .was);
-          able = rw (g .same v (p .was .le)) (p .able);
+          able = rw (g .stable v (p .was .le) []) (p .able);
           waits = waits′ (g .change (cell h o));
           done = done′ (g .change (cell h o)) (ℕ-discrete (at G (cell h o) .current) v);
         }
@@ -130,12 +136,12 @@ module _ (h : ℕ) (weight : ℕ → ℕ) where
     spot-grow y a p =
         record {
           current-le = omega (arith, p .current-le, g .more);
-          depicts = depicts-ver h weight closed (g .same) (p .current-le) (p .depicts);
+          depicts = depicts-ver h weight (g .stable _ (p .current-le)) (p .depicts);
           taken-pre = λ b. prefix-trans (p .taken-pre b) (g .grows (b ∷ y));
           taken-eq = p .taken-eq;
           inside = all-map (λ e q. (q .0, g .knew (e .op) (q .1))) (p .inside);
           truth = p .truth;
-          able = all-map (λ o q. (q .0, subst (λ (n : Version). fits (o .update) (mark n) ≡ false) (sym (g .same (a .current) (p .current-le))) (q .1), g .knew o (q .2), q .3)) (p .able);
+          able = all-map (λ o q. (q .0, subst (λ (n : Version). fits (o .update) (mark n) ≡ false) (sym (g .stable (a .current) (p .current-le) [])) (q .1), g .knew o (q .2), q .3)) (p .able);
           once = p .once;
           once-waiting = p .once-waiting;
         }
@@ -172,7 +178,7 @@ module _ (h : ℕ) (weight : ℕ → ℕ) where
         pairs = λ u v. put-all ℕ-discrete (λ u X. Pair G′ X (put ℕ-discrete (σ .workers) w W′ v)) (σ .workers) w W′
             (put-all ℕ-discrete (λ v Y. Pair G′ W′ Y) (σ .workers) w W′ (d .pair-self) (λ y n. d .pair-from (σ .workers y) (i .works y) (i .pairs w y)) v)
             (λ y n. put-all ℕ-discrete (λ v Y. Pair G′ (σ .workers y) Y) (σ .workers) w W′ (d .pair-to (σ .workers y) (i .works y) (i .pairs y w))
-            (λ z m. pair-grow (i .closed) (d .grow) (σ .workers y) (σ .workers z) (i .works z) (i .pairs y z)) v) u;
+            (λ z m. pair-grow (d .grow) (σ .workers y) (σ .workers z) (i .works z) (i .pairs y z)) v) u;
         known = put-all ℕ-discrete (λ u X. OnOp (Known h G′) X) (σ .workers) w W′ (d .known) (λ y n. onop-map (Known h (σ .shared)) (Known h G′) (d .grow .knew) (σ .workers y) (i .known y));
         apart = λ u v. put-all ℕ-discrete (λ u X. u ≢ v → Apart X (put ℕ-discrete (σ .workers) w W′ v)) (σ .workers) w W′
             (put-all ℕ-discrete (λ v Y. w ≢ v → Apart W′ Y) (σ .workers) w W′ (λ n. absurd (n refl)) (λ y n m. d .apart-from (σ .workers y) (i .known y) (i .apart w y m)) v)
@@ -181,7 +187,7 @@ module _ (h : ℕ) (weight : ℕ → ℕ) where
       }
     where
       works′ : (y : ℕ) → y ≢ w → WorkerOk h weight G′ (σ .workers y)
-      works′ y n = work-grow (i .closed) (d .grow) (σ .workers y) (d .is-J (σ .workers y) (i .apart y w n)) (d .is-K (σ .workers y) (i .pairs y w)) (i .works y)
+      works′ y n = work-grow (d .grow) (σ .workers y) (d .is-J (σ .workers y) (i .apart y w n)) (d .is-K (σ .workers y) (i .pairs y w)) (i .works y)
 
   pub record Step (G : Shared) (W : Worker) (p : Shared × Worker) : Type 1 where
     pub J : Op → Type 0

@@ -18,7 +18,8 @@ use Rattle.history.specs.Base.{Side, lo, hi, Node, down, length-down, Pr
 use Rattle.history.specs.Numbers.{number, number-pos, number-range}
 use Rattle.history.specs.Book.{fits, ones, weights, mark}
 use Rattle.history.specs.Arrivals.{Op}
-use Rattle.history.specs.Put.{choose, put-same, put-other}
+use Rattle.history.specs.Put.{choose}
+use Rattle.history.specs.PutLaws.{put-same, put-other}
 use Rattle.history.specs.Machine.{child, look, Shared, nothing, atNode, atLeft, atBoth, Worker, idle, reading, swapping, climbing, answered, State, at, cell, stepW, begins, settled, initial}
 use Rattle.history.specs.Replay.{dist-nil, ops-nil}
 use Rattle.history.specs.Invariant.{tally, Closed, Inner, Depicts, Known, OnOp, Pair, SpotOk, WorkerOk, Inv}
@@ -49,7 +50,7 @@ module _ (h : ℕ) (weight : ℕ → ℕ) where
       grow-begin =
           record {
             more = le-refl (G .used);
-            same = λ v l. refl;
+            stable = λ v l t. refl;
             grows = λ y. prefix-refl (at G y .reached);
             change = λ y. kept refl (λ b. refl) (λ o m. m);
             nexts = omega arith;
@@ -61,7 +62,7 @@ module _ (h : ℕ) (weight : ℕ → ℕ) where
       begin-step W =
           record {
             closed = cl;
-            spots = λ y. spot-grow h weight cl grow-begin y (at G y) (sp y);
+            spots = λ y. spot-grow h weight grow-begin y (at G y) (sp y);
             grow = grow-begin;
             is-J = λ X q. no-J X;
             is-K = λ X q. no-K X;
@@ -96,7 +97,7 @@ module _ (h : ℕ) (weight : ℕ → ℕ) where
     pub knew : (o : Op) → Known h G o → Known h G′ o
 
   later-grow : {J : Op → Type 0} {K : _ → Type 0} {G G′ : Shared} → Grow h weight J K G G′ → Later G G′
-  later-grow g = record { more = g .more; same = g .same; grows = g .grows; nexts = g .nexts; knew = g .knew }
+  later-grow g = record { more = g .more; same = λ v l. g .stable v l []; grows = g .grows; nexts = g .nexts; knew = g .knew }
 
   pub step-later : (σ : State) (w : ℕ) → Inv h weight σ → Later (σ .shared) (stepW h weight (σ .shared) (σ .workers w) .0)
   step-later σ w i = later-grow (stepping (σ .shared) (i .closed) (i .spots) (σ .workers w) (i .works w) (i .pairs w w) (i .known w) .good .grow)

@@ -9,6 +9,7 @@ pub mod Theorem
 pub mod PageWords
 -- the machine, and the facts that every step keeps
 pub mod Base
+pub mod PutLaws
 pub mod Numbers
 pub mod Machine
 pub mod Replay

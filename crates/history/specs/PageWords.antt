@@ -1,7 +1,7 @@
 -- The order remembers lists where document 01 speaks of moments; these laws say of it what the page says.
 -- Assumes nothing.
 use mathlib.Core.Path.{_≡_, refl, sym, ap, _∙_, subst}
-use mathlib.Core.Logic.{_⊎_, inl, inr}
+use mathlib.Core.Logic.{_≢_, _⊎_, inl, inr}
 use mathlib.Core.Bool.{Bool, true, false}
 use mathlib.Core.List.{List, [], _∷_, _++_, List·Memᴰ·head, List·Memᴰ·tail, List·Memᴰ·not-nil, List·Memᴰ·cases-cons, List·Memᴰ·append-cases, Memᴰ·append-left, Memᴰ·append-right}
 use Prim.Native.Nat.{ℕ, _+_, _*_}
@@ -11,10 +11,14 @@ use Rattle.trie.specs.declared.Climb.{Climb}
 use Rattle.trie.specs.declared.Held.{Held}
 use Rattle.trie.specs.declared.Phase.{Phase}
 use Rattle.trie.specs.Choice.{pick}
-use Rattle.trie.specs.Calls.{State}
+use Rattle.trie.specs.Calls.{State, startOf, stepOf}
+use Rattle.trie.specs.CallLaws.{start-call-refused, step-call-refused}
+use Rattle.trie.specs.Values.{Ok, Course}
+use Rattle.decibel.specs.Told.{Told, refused, gives}
+use Rattle.history.specs.Histories.{Call, start, step, Moment, called, afterStart, afterStep, numberOf, refusal}
 use Rattle.history.specs.Base.{_∈_}
 use Rattle.history.specs.Arrivals.{Entry, has, unseen, refreshBrings}
-use Rattle.history.specs.Put.{put-same}
+use Rattle.history.specs.PutLaws.{put-same}
 use Rattle.history.specs.Order.{Memory, succeeds, advance, swapsNode}
 
 -- those of a list that have not come yet: they are in the list, and not among those that have come
@@ -86,3 +90,16 @@ module _ (n i : ℕ) (s : State) (m : Memory) (c : Climb) where
     -- a failing swap brings nobody
     pub brings-none : succeeds s (c .node .0) v ≡ false → afterwards ≡ before
     brings-none k = ap (λ b. swapsNode b (c .node .0) (m .tasks i) m .reached (c .node .0)) k
+
+-- a refused call is no part of the history: it leaves all that is lent, and all that is remembered, as it was
+pub refused-nothing : (n w : ℕ) (c : Call) (t : Moment) → refusal n w c (t .state) ≢ 0 → called n w c t ≡ t
+refused-nothing n w (start i o) t d = by (startOf n w i o (t .state) .told) refl d
+  where
+    by : (x : Told Ok) → startOf n w i o (t .state) .told ≡ x → numberOf (startOf n w i o (t .state) .told) ≢ 0 → called n w (start i o) t ≡ t
+    by (refused k) e z = λ j. record { state = start-call-refused n w i o (t .state) k e j; memory = afterStart (e j) i o (t .memory) }
+    by (gives a) e z = absurd (z (ap numberOf e))
+refused-nothing n w (step i) t d = by (stepOf n w i (t .state) .told) refl d
+  where
+    by : (x : Told Course) → stepOf n w i (t .state) .told ≡ x → numberOf (stepOf n w i (t .state) .told) ≢ 0 → called n w (step i) t ≡ t
+    by (refused k) e z = λ j. record { state = step-call-refused n w i (t .state) k e j; memory = afterStep (e j) n i (t .state) (t .memory) }
+    by (gives a) e z = absurd (z (ap numberOf e))

@@ -43,7 +43,7 @@ use Rattle.history.specs.Promise.{open-promise, promise-room}
 use Rattle.history.specs.Asked.{root-whole, root-shows}
 use Rattle.history.specs.Beneath.{root-shown}
 use Rattle.history.specs.Chronicle.{stands-before}
-use Rattle.history.specs.Placing.{same-book}
+use Rattle.history.specs.Placing.{updates, ops, same-book}
 use Rattle.history.specs.Replay.{view, replay-at}
 use Rattle.history.specs.Tied.{Came, Querying, resting, Tied}
 use Rattle.history.specs.StepCalls.{Belongs, StepTold, step-told}
@@ -237,6 +237,13 @@ module _ (n w : ℕ) (t : Moment) (b : Belongs n w (t .state) (t .memory)) where
         room = promise-room (t .state) (T .promise);
         reached = reached;
       }
+
+-- the updates of the order are those that have reached the root, as they came
+pub order-of-the-root : (n w : ℕ) (s : State) (calls : List Call) → openOf n w s .told ≡ gives ok → updates (history n w s calls .memory .order) ≡ ops (history n w s calls .memory .reached 1)
+order-of-the-root n w s calls told = by (calls-belong n w calls (record { state = openOf n w s .state; memory = nothingYet }) (open-belongs n w s told))
+  where
+    by : Belongs n w (history n w s calls .state) (history n w s calls .memory) → updates (history n w s calls .memory .order) ≡ ops (history n w s calls .memory .reached 1)
+    by b = b .tied .placed ∙ ap ops (sym (b .tied .remembers .reached [] (omega arith)))
 
 pub every-history-is-a-book : EveryHistoryIsABook
 every-history-is-a-book n w s calls told = holds n w (history n w s calls) (calls-belong n w calls (record { state = openOf n w s .state; memory = nothingYet }) (open-belongs n w s told))

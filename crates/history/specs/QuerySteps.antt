@@ -20,7 +20,7 @@ use Rattle.trie.specs.Stepping.{Stepped}
 use Rattle.trie.specs.Calls.{State}
 use Rattle.history.specs.Base.{All}
 use Rattle.history.specs.Book.{Book, blank, answer}
-use Rattle.history.specs.Put.{put-same}
+use Rattle.history.specs.PutLaws.{put-same}
 use Rattle.history.specs.Replay.{view, replay-at}
 use Rattle.history.specs.Order.{Placed, placed, Memory, memory, answerOf, advance}
 use Rattle.history.specs.Histories.{phaseOf}

@@ -14,7 +14,7 @@ use Rattle.trie.specs.Record.{cellOf}
 use Rattle.history.specs.Base.{Side, lo, hi, Node, Node-discrete, Below, below-length, below-up, below-one, lo≢hi, _∈_, Prefix, prefix-trans, All, all-nil, all-map, all-append, all-prefix, all-rest, all-at, all-intro}
 use Rattle.history.specs.Numbers.{leaf, place, length-leaf, place-leaf, leaf-place}
 use Rattle.history.specs.Arrivals.{Op, Entry, unseen, refreshBrings}
-use Rattle.history.specs.Put.{put-all, put-same}
+use Rattle.history.specs.PutLaws.{put-all, put-same}
 use Rattle.history.specs.Machine.{either, child, Shared, atBoth, Climb, climbing, at, cell, goUp, join, nodeSwap, nodeTry}
 use Rattle.history.specs.Replay.{run, only, only-append, only-none, mem-only, only-mem, Distinct, distinct-prefix, distinct-apart, ops-nil, has-mem, has-none, unseen-split}
 use Rattle.history.specs.Invariant.{Closed, Inner, Depicts, Known, its, Late, PairOk, SpotOk, SawOk, ClimbOk}
@@ -123,7 +123,7 @@ module _ (h : ℕ) (weight : ℕ → ℕ) (G : Shared) (cl : Closed (G .ver) (G 
     after-swap = nodeSwap G x l s r t
 
     grow-node : Grow h weight NoJ Seen G after-swap
-    grow-node = grow-swap h weight G NoJ Seen x (join G l r) new (λ b. either b s t)
+    grow-node = grow-swap h weight G cl NoJ Seen x (join G l r) new (λ b. either b s t)
         (inner (omega arith) inner-lt (λ d nd k b. seen-in (d .side) (its d) b (k nd)))
         (λ o d j z. absurd (omega (arith, inner-lt)))
 
@@ -138,7 +138,7 @@ module _ (h : ℕ) (weight : ℕ → ℕ) (G : Shared) (cl : Closed (G .ver) (G 
     ver-new = put-same ℕ-discrete (G .ver) (suc (G .used)) (join G l r)
 
     kid-new : (b : Side) → Depicts h weight (after-swap .ver) (b ∷ x) (either b l r) (at G x .reached ++ new)
-    kid-new b = depicts-cong h weight (λ k p d. ap (run none) (sym (seen b k p d))) (depicts-ver h weight cl (grow-node .same) (saw b .le) (saw b .depicts))
+    kid-new b = depicts-cong h weight (λ k p d. ap (run none) (sym (seen b k p d))) (depicts-ver h weight (grow-node .stable _ (saw b .le)) (saw b .depicts))
 
     depicts-new : Depicts h weight (after-swap .ver) x (suc (G .used)) (at G x .reached ++ new)
     depicts-new = depicts-join h weight (after-swap .ver) x (suc (G .used)) (at G x .reached ++ new) (omega arith) inner-lt
@@ -146,9 +146,9 @@ module _ (h : ℕ) (weight : ℕ → ℕ) (G : Shared) (cl : Closed (G .ver) (G 
         (λ b. subst (λ w. Depicts h weight (after-swap .ver) (b ∷ x) (child b w) (at G x .reached ++ new)) (sym ver-new)
         (subst (λ n. Depicts h weight (after-swap .ver) (b ∷ x) n (at G x .reached ++ new)) (sym (kid b)) (kid-new b)))
         (subst (λ w. w .count ≡ after-swap .ver (child lo w) .count + after-swap .ver (child hi w) .count) (sym ver-new)
-        (sym (ap₂ _+_ (ap (λ w. w .count) (grow-node .same l (saw lo .le))) (ap (λ w. w .count) (grow-node .same r (saw hi .le))))))
+        (sym (ap₂ _+_ (ap (λ w. w .count) (grow-node .stable l (saw lo .le) [])) (ap (λ w. w .count) (grow-node .stable r (saw hi .le) [])))))
         (subst (λ w. w .energy .0 ≡ after-swap .ver (child lo w) .energy .0 + after-swap .ver (child hi w) .energy .0) (sym ver-new)
-        (sym (ap₂ _+_ (ap (λ w. w .energy .0) (grow-node .same l (saw lo .le))) (ap (λ w. w .energy .0) (grow-node .same r (saw hi .le))))))
+        (sym (ap₂ _+_ (ap (λ w. w .energy .0) (grow-node .stable l (saw lo .le) [])) (ap (λ w. w .energy .0) (grow-node .stable r (saw hi .le) [])))))
 
     spot-node : (y : Node) → SpotOk h weight after-swap y (at after-swap y)
     spot-node = put-all Node-discrete (λ y a. SpotOk h weight after-swap y a) (G .spot) x _
@@ -165,7 +165,7 @@ module _ (h : ℕ) (weight : ℕ → ℕ) (G : Shared) (cl : Closed (G .ver) (G 
           once = λ d. absurd (omega (arith, inner-lt));
           once-waiting = ops-nil;
         })
-        (λ y n. spot-grow h weight cl grow-node y (at G y) (sp y))
+        (λ y n. spot-grow h weight grow-node y (at G y) (sp y))
 
     node-step : Known h G (c .op) → Step h weight G (climbing c (atBoth v l s r t)) (after-swap, goUp (c .op) (c .res) (suc (c .made)) x)
     node-step old =

@@ -28,7 +28,7 @@ use Rattle.trie.specs.Calls.{State, After, startAt, startOf}
 use Rattle.trie.specs.CallLaws.{Ready, lent-ready, start-lent, start-of-record, start-no-worker, manned-long}
 use Rattle.history.specs.Base.{all-map}
 use Rattle.history.specs.Arrivals.{Op}
-use Rattle.history.specs.Put.{put-all, put-same, put-other}
+use Rattle.history.specs.PutLaws.{put-all, put-same, put-other}
 use Rattle.history.specs.Order.{Memory, begin}
 use Rattle.history.specs.Histories.{phaseOf}
 use Rattle.history.specs.Machine.{Shared, Worker, idle as rested, reading, settled, begins}

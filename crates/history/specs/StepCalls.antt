@@ -25,7 +25,7 @@ use Rattle.trie.specs.Calls.{State, state, After, manned, stepAt, stepOf}
 use Rattle.trie.specs.CallLaws.{Ready, lent-ready, step-lent, step-of-record, step-no-worker, manned-long}
 use Rattle.history.specs.Base.{_∈_, All, all-nil, all-cons, all-at}
 use Rattle.history.specs.Book.{blank}
-use Rattle.history.specs.Put.{put-same}
+use Rattle.history.specs.PutLaws.{put-same}
 use Rattle.history.specs.Replay.{view as booked}
 use Rattle.history.specs.Order.{placed, Memory, memory, answerOf, advance, lived}
 use Rattle.history.specs.Histories.{phaseOf}

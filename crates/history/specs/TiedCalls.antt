@@ -18,7 +18,7 @@ use Rattle.trie.specs.Calls.{State}
 use Rattle.trie.specs.CallLaws.{Ready}
 use Rattle.history.specs.Base.{mem-prefix, All, all-nil, all-zip}
 use Rattle.history.specs.Arrivals.{Op, Entry}
-use Rattle.history.specs.Put.{put-all, put-same, put-other}
+use Rattle.history.specs.PutLaws.{put-all, put-same, put-other}
 use Rattle.history.specs.Order.{Placed, Answered, Task, task, Memory, memory, begin}
 use Rattle.history.specs.Histories.{phaseOf}
 use Rattle.history.specs.Theorem.{Carried}

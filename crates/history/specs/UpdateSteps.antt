@@ -21,7 +21,8 @@ use Rattle.history.specs.View.{Shown}
 use Rattle.history.specs.Base.{_∈_, All, all-map, all-append, all-at, all-right, all-intro}
 use Rattle.history.specs.Book.{blank}
 use Rattle.history.specs.Arrivals.{Op, Entry, entry}
-use Rattle.history.specs.Put.{put, put-same}
+use Rattle.history.specs.Put.{put}
+use Rattle.history.specs.PutLaws.{put-same}
 use Rattle.history.specs.Replay.{Truthful, truthful-by-cells, Distinct, distinct-right}
 use Rattle.history.specs.Order.{Placed, placed, Answered, life, Memory, memory, places, advance, answerOf, lived}
 use Rattle.history.specs.Histories.{phaseOf}

@@ -14,7 +14,7 @@ use Rattle.trie.specs.TableLaws.{put-same as version-put-same, put-other as ver
 use Rattle.history.specs.Base.{Side, lo, hi, Node, Node-discrete}
 use Rattle.history.specs.Numbers.{number, number-pos, number-range, number-inj}
 use Rattle.history.specs.Arrivals.{Op, Entry}
-use Rattle.history.specs.Put.{put-all}
+use Rattle.history.specs.PutLaws.{put-all}
 use Rattle.history.specs.Machine.{Spot, Shared, at, withSpot, swap, begins}
 use Rattle.history.specs.View.{View}
 

@@ -18,3 +18,6 @@ pub mod StepLaws
 pub mod CallLaws
 pub mod Decided
 pub mod PromiseLaws
+pub mod Runs
+pub mod Soundings
+pub mod Refusals

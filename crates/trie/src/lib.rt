@@ -1,15 +1,5 @@
 // The tree of cells: what its tables hold, what a worker's record holds, and what a call answers.
 // Node and version numbers, levels and energies are types of their own, so that none stands in for another.
-mod asking;
-mod leaf;
-mod opening;
-mod record;
-mod refreshing;
-mod size;
-mod sound;
-mod starting;
-mod stepping;
-mod tables;
 
 use decibel::Energy;
 use decibel::Level;
@@ -168,7 +158,3 @@ pub struct Begun {
     pub accepted: Accepted,
     pub worker: Worker,
 }
-
-pub use opening::open_tables;
-pub use starting::start_record;
-pub use stepping::step_record;

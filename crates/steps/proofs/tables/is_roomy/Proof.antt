@@ -1,0 +1,26 @@
+-- `steps::tables::is_roomy` meets its contract.
+-- Assumes nothing.
+use native.Mathlib.Omega.{arith}
+use Rattle.trie.specs.Tables.{roomy}
+use borrow.Author.Needs.{needs}
+use Rattle.steps.proofs.tables.is_roomy.Statement.{statement}
+use Rattle.steps.proofs.tables.is_roomy.Tie as tie
+
+room-requires : tie.Need-room-requires
+room-requires c κs = search needs
+
+mul-result : tie.Need-mul-result
+mul-result c = search needs
+
+mul-result-2 : tie.Need-mul-result-2
+mul-result-2 c = search needs
+
+sub-result : tie.Need-sub-result
+sub-result c = omega arith
+
+returns : tie.Need-returns
+unfolding roomy
+returns c = simp (c .room .ensures)
+
+pub is-roomy-spec : {M : Type 1} → statement M
+is-roomy-spec = tie.close (tie.spec room-requires mul-result mul-result-2 sub-result returns)
