@@ -9,6 +9,7 @@ use Rattle.trie.specs.declared.Accepted.{Accepted}
 use Rattle.trie.specs.declared.Progress.{Progress}
 use Rattle.trie.specs.declared.Worker.{Worker}
 use Rattle.trie.specs.Values.{Value, Ok, Course, valueOf, acceptedOf, progressOf}
+use Rattle.trie.specs.Opening.{Opened}
 use Rattle.trie.specs.Starting.{Started}
 use Rattle.trie.specs.Stepping.{Stepped}
 use Rattle.trie.specs.Calls.{State, After, after}
@@ -58,6 +59,17 @@ started a w = record { told = acceptedOf a; worker = w }
 
 abbrev pub stepped : Progress → Worker → List ℕ → List ℕ → Stepped
 stepped a w nodes versions = record { told = progressOf a; worker = w; nodes = nodes; versions = versions }
+
+-- opening the tables: `openTablesOf n nodes versions`
+pub open-decided : (r : Opened) (a b : Accepted) (nodes nodes′ versions versions′ : List ℕ)
+    → _≡_ {A = Opened} (record { told = acceptedOf a; nodes = nodes; versions = versions }) r
+    → _≡_ {A = Opened} (record { told = acceptedOf b; nodes = nodes′; versions = versions′ }) r
+    → (a ≡ b) × (nodes ≡ nodes′) × (versions ≡ versions′)
+open-decided r a b nodes nodes′ versions versions′ p q = (
+  accepted-one a b (ap (λ (s : Opened). s .told) (p ∙ sym q)),
+  ap (λ (s : Opened). s .nodes) (p ∙ sym q),
+  ap (λ (s : Opened). s .versions) (p ∙ sym q),
+)
 
 -- whatever start of a record is to come to, as `startRecordOf n o promised w nodes versions`, is come to in one way
 pub start-decided : (r : Started) (a b : Accepted) (v w : Worker) → started a v ≡ r → started b w ≡ r → (a ≡ b) × (v ≡ w)
