@@ -51,5 +51,6 @@ pub mod QuerySteps
 pub mod StepCalls
 pub mod StartCalls
 pub mod Proof
+pub mod OrderGrows
 -- that it is not empty
 pub mod Soundings

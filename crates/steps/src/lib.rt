@@ -12,5 +12,8 @@ mod stepping;
 mod tables;
 
 pub use opening::open_tables;
+pub use record::owed;
+pub use size::height;
+pub use size::is_allowed;
 pub use starting::start_record;
 pub use stepping::step_record;

@@ -104,7 +104,7 @@ pub(crate) fn climb_fits(b: Bounds, c: Climb) -> bool
 }
 
 // What one worker may still make.
-pub(crate) fn owed(share: u64, w: Worker) -> Promised
+pub fn owed(share: u64, w: Worker) -> Promised
     ensures { λ r. ⌜ r ≡ owedPhase share (w .phase) ⌝ }
 {
     let phase = w.phase;

@@ -4,13 +4,13 @@ ghost use mathlib.Core.Path.{_≡_};
 ghost use Prim.Native.Nat.{_/_, _^_};
 ghost use Rattle.trie.specs.Size.{allowed, heightOf};
 
-pub(crate) fn is_allowed(n: u64) -> bool
+pub fn is_allowed(n: u64) -> bool
     ensures { λ r. ⌜ r ≡ allowed n ⌝ }
 {
     (u64::count_ones(n) == 1) & ((2 <= n) & (n <= 4096))
 }
 
-pub(crate) fn height(n: u64) -> u64
+pub fn height(n: u64) -> u64
     ensures { λ r. ⌜ r ≡ heightOf n ⌝ }
 {
     u64::trailing_zeros(n) as u64

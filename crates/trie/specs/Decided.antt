@@ -14,6 +14,10 @@ use Rattle.trie.specs.Starting.{Started}
 use Rattle.trie.specs.Stepping.{Stepped}
 use Rattle.trie.specs.Calls.{State, After, after}
 
+-- a contract that states its answer outright leaves one
+pub same-decided : {A : Type 0} (stated a b : A) → a ≡ stated → b ≡ stated → a ≡ b
+same-decided stated a b p q = p ∙ sym q
+
 -- the answer back from its value
 back : Value → Answer
 back Value.yes′ = Answer.Yes
