@@ -1,0 +1,18 @@
+// The public calls of document 01: open, start and step, on lent tables and a lent row of workers.
+// A call picks one worker's record, has it stepped by value, and stores it; no other record is written.
+mod judging;
+mod opening;
+mod promising;
+mod rows;
+mod starting;
+mod stepping;
+
+pub use opening::open;
+pub use rows::AcceptedRow;
+pub use rows::SteppedRow;
+pub use rows::open_row;
+pub use rows::start_row;
+pub use rows::step_row;
+pub use starting::start;
+pub use stepping::step;
+pub use stepping::step_in_place;

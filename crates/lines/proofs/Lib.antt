@@ -1,0 +1,8 @@
+mod Texts
+mod Boards
+mod Going
+mod Opens
+pub mod Feeds
+mod Runs
+mod Outcomes
+pub mod Cuts

@@ -1,0 +1,36 @@
+-- `lines::text::put_refused` meets its contract.
+-- Assumes nothing.
+use native.Mathlib.Omega.{arith}
+use Rattle.lines.proofs.Texts.{put-both, put-as, refused-text}
+use borrow.Author.Needs.{needs}
+use Rattle.lines.proofs.text.put_refused.Statement.{statement}
+use Rattle.lines.proofs.text.put_refused.Tie as tie
+
+slice-aggregate-spell : tie.Need-slice-aggregate-spell
+slice-aggregate-spell c = search needs
+
+spell-requires : tie.Need-spell-requires
+spell-requires c κs = search needs
+
+slice-aggregate-put : tie.Need-slice-aggregate-put
+slice-aggregate-put c = search needs
+
+put-requires : tie.Need-put-requires
+put-requires c κs = search needs
+
+same-length : tie.Need-same-length
+same-length c = search needs
+
+returns : tie.Need-returns
+returns c = (put-as _ _ _ _ _ _ (refused-text (c .before .before .before .before .before .before .before .before .before .before .before .args .number)) (put-both _ _ _ _ _ _ _ _ (omega (arith, c .before .before .before .before .before .before .before .before .before .before .before .pre, c .before .before .before .before .before .before .before .spell .ensures .0 .ends, c .before .before .before .before .before .before .before .spell .ensures .1)) (c .before .before .before .before .before .before .before .spell .ensures .0) (c .before .before .put .ensures)), omega (arith, c .before .before .before .before .before .before .before .spell .ensures .1, c .before .before .put .ensures .ends))
+
+pub put-refused-spec : {M : Type 1} → statement M
+put-refused-spec =
+    tie.close
+    (tie.spec
+    slice-aggregate-spell
+    spell-requires
+    slice-aggregate-put
+    put-requires
+    same-length
+    returns)
