@@ -22,7 +22,7 @@ use Rattle.trie.specs.Starting.{startRecordOf}
 use Rattle.trie.specs.Stepping.{planOf, carryOf, stepRecordOf}
 use Rattle.trie.specs.Values.{Ok, ok, Course}
 use Rattle.trie.specs.Calls.{State, state, openOf, startOf, stepOf, manned}
-use Rattle.trie.specs.Runs.{repeat, lent, insert}
+use Rattle.trie.specs.Runs.{Line, said, went, repeat, lent, insert}
 
 -- a call, and what it tells
 pub data Case : Type 0 where
@@ -30,14 +30,18 @@ pub data Case : Type 0 where
   starts : ℕ → ℕ → ℕ → Operation → State → Told Ok → Case
   steps : ℕ → ℕ → ℕ → State → Told Course → Case
 
-abbrev pub Tells : Case → Type 0
-Tells (opens n w s t) = openOf n w s .told ≡ t
-Tells (starts n w i o s t) = startOf n w i o s .told ≡ t
-Tells (steps n w i s t) = stepOf n w i s .told ≡ t
+-- what the definitions tell, and what the page says, call by call
+abbrev pub told : List Case → List Line
+told [] = []
+told (opens n w s t ∷ cases) = said (openOf n w s .told) ∷ told cases
+told (starts n w i o s t ∷ cases) = said (startOf n w i o s .told) ∷ told cases
+told (steps n w i s t ∷ cases) = went (stepOf n w i s .told) ∷ told cases
 
-abbrev pub AllTell : List Case → Type 0
-AllTell [] = Unit {0}
-AllTell (c ∷ cases) = Tells c × AllTell cases
+abbrev pub page : List Case → List Line
+page [] = []
+page (opens n w s t ∷ cases) = said t ∷ page cases
+page (starts n w i o s t ∷ cases) = said t ∷ page cases
+page (steps n w i s t ∷ cases) = went t ∷ page cases
 
 -- two cells, V versions and one record, with this count of versions used
 abbrev tree : ℕ → ℕ → Worker → State
@@ -73,6 +77,7 @@ cases =
     ∷ starts 2 1 0 (insert 0 60) (tree 5 3 idle) (gives ok)
     ∷ starts 2 1 0 (find 1) (tree 3 3 idle) (gives ok)
     ∷ starts 2 2 1 (insert 0 60) (state (3 ∷ 1 ∷ 2 ∷ 3 ∷ []) (repeat 30 0) (climbing 1 ∷ idle ∷ [])) (gives ok)
+    ∷ starts 2 2 1 (insert 0 60) (state (3 ∷ 1 ∷ 2 ∷ 3 ∷ []) (repeat 25 0) (worker (Phase.Ask Query.Total) ∷ idle ∷ [])) (gives ok)
     ∷ starts 2 2 1 (insert 0 60) (state (3 ∷ 1 ∷ 2 ∷ 3 ∷ []) (repeat 30 0) (climbing 0 ∷ idle ∷ [])) (refused 8)
     ∷ starts 2 2 1 (find 1) (state (3 ∷ 1 ∷ 2 ∷ 3 ∷ []) (repeat 30 0) (climbing 3 ∷ idle ∷ [])) (refused 9)
     ∷ starts 2 1 0 (find 1) (state (3 ∷ 1 ∷ 2 ∷ 3 ∷ []) (repeat 30 0) (idle ∷ climbing 3 ∷ [])) (gives ok)
@@ -81,48 +86,6 @@ cases =
     ∷ steps 2 1 0 (tree 9 2 (worker (Phase.Ask Query.Total))) (refused 9)
     ∷ []
 
-pub cases-tell : AllTell cases
+pub cases-tell : told cases ≡ page cases
 unfolding ones trailingZeros allowed heightOf roomOf roomy boundsOf usedSound filled startRecordOf planOf carryOf stepRecordOf openOf startOf stepOf manned
-cases-tell = (
-  refl,
-  (
-    refl,
-    (
-      refl,
-      (
-        refl,
-        (
-          refl,
-          (
-            refl,
-            (
-              refl,
-              (
-                refl,
-                (
-                  refl,
-                  (
-                    refl,
-                    (
-                      refl,
-                      (
-                        refl,
-                        (
-                          refl,
-                          (
-                            refl,
-                            (refl, (refl, (refl, (refl, (refl, (refl, (refl, (refl, (refl, (refl, (refl, (refl, (refl, tt))))))))))))),
-                          ),
-                        ),
-                      ),
-                    ),
-                  ),
-                ),
-              ),
-            ),
-          ),
-        ),
-      ),
-    ),
-  ),
-)
+cases-tell = refl
