@@ -54,3 +54,4 @@ pub mod Proof
 pub mod OrderGrows
 -- that it is not empty
 pub mod Soundings
+pub mod Starred
