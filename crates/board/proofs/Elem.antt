@@ -60,7 +60,7 @@ module _ {M : Type 1} (𝓤 : URA M) (H : Heap 𝓤) (A : Atoms 𝓤) where
 
 -- a record takes so many bytes
 abbrev pub bytes : ℕ
-bytes = 96
+bytes = 88
 
 -- the offset of element i is a usize
 pub step-fits : (n i : ℕ) → Room R n → i < n → Fits w64 (i * bytes)
@@ -82,7 +82,7 @@ module _ {M : Type 1} (𝓤 : URA M) (H : Heap 𝓤) (A : Atoms 𝓤) where
   operation-makes = EL.makes Op.the-type Op′.the-plain 𝓤 H A
 
   pub moved-makes : Makes 𝓤 H A Mo.the-row (Is Mo.the-row)
-  moved-makes = LL.makes Mo.the-type Mo′.the-plain 𝓤 H A
+  moved-makes = EL.makes Mo.the-type Mo′.the-plain 𝓤 H A
 
   pub begun-makes : Makes 𝓤 H A Be.the-row (Is Be.the-row)
   begun-makes = LL.makes Be.the-type Be′.the-plain 𝓤 H A
@@ -101,7 +101,7 @@ module _ {M : Type 1} (𝓤 : URA M) (H : Heap 𝓤) (A : Atoms 𝓤) where
     operation-lawful = EL.lawful Op.the-type Op′.the-laws 𝓤 H A W tt
 
     pub moved-lawful : Lawful 𝓤 H A Mo.the-row
-    moved-lawful = LL.lawful Mo.the-type Mo′.the-laws 𝓤 H A W
+    moved-lawful = EL.lawful Mo.the-type Mo′.the-laws 𝓤 H A W tt
 
     pub begun-lawful : Lawful 𝓤 H A Be.the-row
     begun-lawful = LL.lawful Be.the-type Be′.the-laws 𝓤 H A W

@@ -40,14 +40,14 @@ stepped-rows : (r q : SteppedRow) → r .progress ≡ q .progress → r .row ≡
 stepped-rows r q e f = ap (λ (a : Progress). record { progress = a; row = r .row }) e ∙ ap (λ (x : List Worker). record { progress = q .progress; row = x }) f
 
 module _ (nodes nodes′ versions versions′ : List ℕ) where
-  -- `open_row` and `start_row`: x is `openOf n w s` or `startOf n w i o s`
+  -- `open_row` and `start_row`: x is `seated seats row (openOf n w s)` or `seated seats row (startOf n w i o s)`
   pub accepted-row-one : (x : After Ok) (r q : AcceptedRow) → after (acceptedOf (r .accepted)) (state nodes versions (r .row)) ≡ x → after (acceptedOf (q .accepted)) (state nodes′ versions′ (q .row)) ≡ x
       → (r ≡ q) × (nodes ≡ nodes′) × (versions ≡ versions′)
   accepted-row-one x r q e f =
       let d = accepted-decided x (r .accepted) (q .accepted) (state nodes versions (r .row)) (state nodes′ versions′ (q .row)) e f in
       (accepted-rows r q (d .0) (ap (λ (s : State). s .board) (d .1)), ap (λ (s : State). s .nodes) (d .1), ap (λ (s : State). s .versions) (d .1))
 
-  -- `step_row`: x is `stepOf n w i s`
+  -- `step_row`: x is `seated seats row (stepOf n w i s)`
   pub stepped-row-one : (x : After Course) (r q : SteppedRow) → after (progressOf (r .progress)) (state nodes versions (r .row)) ≡ x → after (progressOf (q .progress)) (state nodes′ versions′ (q .row)) ≡ x
       → (r ≡ q) × (nodes ≡ nodes′) × (versions ≡ versions′)
   stepped-row-one x r q e f =

@@ -30,7 +30,7 @@ fn is_roomy(n: u64, nodes: usize, versions: usize) -> bool
 fn judge_absent(n: u64, manned: bool, nodes: usize, versions: usize) -> u64
     ensures { λ r. ⌜ r ≡ absentOf n manned nodes versions ⌝ }
 {
-    if !steps::is_allowed(n) {
+    if !tables::is_allowed(n) {
         return 1;
     }
     if !manned {

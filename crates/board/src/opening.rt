@@ -20,7 +20,7 @@ fn open_manned(n: u64, w: u64, seats: usize, nodes: &mut [u64], versions: &mut [
     if is_manned(w, seats) {
         return steps::open_tables(n, nodes, versions);
     }
-    if steps::is_allowed(n) {
+    if tables::is_allowed(n) {
         Accepted::Refused(2)
     } else {
         Accepted::Refused(1)

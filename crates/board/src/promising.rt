@@ -13,7 +13,7 @@ use trie::Worker;
 pub(crate) fn share(n: u64) -> u64
     ensures { λ r. ⌜ r ≡ heightOf n + 1 ⌝ }
 {
-    steps::height(n) + 1
+    tables::height(n) + 1
 }
 
 // One worker's part more.
@@ -21,7 +21,7 @@ fn owe_more(share: u64, sum: Promised, w: Worker) -> Promised
     requires { ⌜ sumOf sum + share < 2 ^ 64 ⌝ }
     ensures { λ r. ⌜ r ≡ together sum (owedPhase share (w .phase)) ⌝ }
 {
-    let part = steps::owed(share, w);
+    let part = tables::owed(share, w);
     match sum {
         Promised::Damaged => Promised::Damaged,
         Promised::Of(a) => match part {

@@ -1,8 +1,9 @@
 // The three calls on a row that is held by value, for callers that should need no proof by hand.
-// The row has the most workers, 16, and four spare records, which no call touches.
+// The first `seats` records of the row are lent, or all where it has fewer; the others no call touches.
 ghost use mathlib.Core.Path.{_≡_};
 ghost use Rattle.trie.specs.Values.{Ok, Course, acceptedOf, progressOf};
 ghost use Rattle.trie.specs.Calls.{After, after, state, openOf, startOf, stepOf};
+ghost use Rattle.board.specs.Rows.{lentOf, boardOf, seated};
 use crate::opening::open;
 use crate::starting::start;
 use crate::stepping::step;
@@ -21,6 +22,13 @@ pub struct AcceptedRow {
 pub struct SteppedRow {
     pub progress: Progress,
     pub row: [Worker; 20],
+}
+
+// How many records of the row are lent.
+fn lent(seats: usize) -> usize
+    ensures { λ r. ⌜ r ≡ lentOf seats ⌝ }
+{
+    if seats <= 20 { seats } else { 20 }
 }
 
 fn accepted_row(accepted: Accepted, row: [Worker; 20]) -> AcceptedRow
@@ -44,14 +52,16 @@ fn stepped_row(progress: Progress, row: [Worker; 20]) -> SteppedRow
 pub fn open_row(
     n: u64,
     w: u64,
+    seats: usize,
     row: [Worker; 20],
     nodes: &mut [u64],
     versions: &mut [u64],
 ) -> AcceptedRow
-    ensures { λ r. ⌜ _≡_ {A = After Ok} (after (acceptedOf (r .accepted)) (state (now (nodes .exit)) (now (versions .exit)) (r .row))) (openOf n w (state (now (nodes .entry)) (now (versions .entry)) row)) ⌝ }
+    ensures { λ r. ⌜ _≡_ {A = After Ok} (after (acceptedOf (r .accepted)) (state (now (nodes .exit)) (now (versions .exit)) (r .row))) (seated seats row (openOf n w (state (now (nodes .entry)) (now (versions .entry)) (boardOf seats row)))) ⌝ }
 {
     let mut board = row;
-    let accepted = open(n, w, nodes, versions, &mut board);
+    let k = lent(seats);
+    let accepted = open(n, w, nodes, versions, &mut board[..k]);
     accepted_row(accepted, board)
 }
 
@@ -60,14 +70,16 @@ pub fn start_row(
     w: u64,
     i: u64,
     o: Operation,
+    seats: usize,
     row: [Worker; 20],
     nodes: &[u64],
     versions: &[u64],
 ) -> AcceptedRow
-    ensures { λ r. ⌜ _≡_ {A = After Ok} (after (acceptedOf (r .accepted)) (state (now (nodes .entry)) (now (versions .entry)) (r .row))) (startOf n w i o (state (now (nodes .entry)) (now (versions .entry)) row)) ⌝ }
+    ensures { λ r. ⌜ _≡_ {A = After Ok} (after (acceptedOf (r .accepted)) (state (now (nodes .entry)) (now (versions .entry)) (r .row))) (seated seats row (startOf n w i o (state (now (nodes .entry)) (now (versions .entry)) (boardOf seats row)))) ⌝ }
 {
     let mut board = row;
-    let accepted = start(n, w, i, o, nodes, versions, &mut board);
+    let k = lent(seats);
+    let accepted = start(n, w, i, o, nodes, versions, &mut board[..k]);
     accepted_row(accepted, board)
 }
 
@@ -75,13 +87,15 @@ pub fn step_row(
     n: u64,
     w: u64,
     i: u64,
+    seats: usize,
     row: [Worker; 20],
     nodes: &mut [u64],
     versions: &mut [u64],
 ) -> SteppedRow
-    ensures { λ r. ⌜ _≡_ {A = After Course} (after (progressOf (r .progress)) (state (now (nodes .exit)) (now (versions .exit)) (r .row))) (stepOf n w i (state (now (nodes .entry)) (now (versions .entry)) row)) ⌝ }
+    ensures { λ r. ⌜ _≡_ {A = After Course} (after (progressOf (r .progress)) (state (now (nodes .exit)) (now (versions .exit)) (r .row))) (seated seats row (stepOf n w i (state (now (nodes .entry)) (now (versions .entry)) (boardOf seats row)))) ⌝ }
 {
     let mut board = row;
-    let progress = step(n, w, i, nodes, versions, &mut board);
+    let k = lent(seats);
+    let progress = step(n, w, i, nodes, versions, &mut board[..k]);
     stepped_row(progress, board)
 }

@@ -5,29 +5,18 @@ ghost use Rattle.trie.specs.Values.{Course, progressOf};
 ghost use Rattle.trie.specs.Stepping.{Stepped, stepRecordOf};
 ghost use Rattle.trie.specs.Calls.{After, after, state, stepOf};
 use crate::judging::judge;
-use trie::Moved;
 use trie::Progress;
 use trie::Worker;
-
-fn worker_after(moved: Moved) -> Worker
-    ensures { λ r. ⌜ r ≡ moved .worker ⌝ }
-{
-    moved.worker
-}
-
-fn progress_after(moved: Moved) -> Progress
-    ensures { λ r. ⌜ r ≡ moved .progress ⌝ }
-{
-    moved.progress
-}
 
 // Steps a record where it lies: refusals 1, 3, 6 and 9.
 pub fn step_in_place(n: u64, w: &mut Worker, nodes: &mut [u64], versions: &mut [u64]) -> Progress
     ensures { λ r. ⌜ _≡_ {A = Stepped} (record { told = progressOf r; worker = now (w .exit); nodes = now (nodes .exit); versions = now (versions .exit) }) (stepRecordOf n (now (w .entry)) (now (nodes .entry)) (now (versions .entry))) ⌝ }
 {
     let moved = steps::step_record(n, *w, nodes, versions);
-    *w = worker_after(moved);
-    progress_after(moved)
+    if steps::has_moved(moved) {
+        *w = steps::worker_after(moved, *w);
+    }
+    steps::progress_after(moved)
 }
 
 fn refuse(number: u64) -> Progress
@@ -51,8 +40,10 @@ pub fn step(
     if refusal == 0 {
         let at = i as usize;
         let moved = steps::step_record(n, board[at], nodes, versions);
-        board[at] = worker_after(moved);
-        progress_after(moved)
+        if steps::has_moved(moved) {
+            board[at] = steps::worker_after(moved, board[at]);
+        }
+        steps::progress_after(moved)
     } else {
         refuse(refusal)
     }

@@ -11,6 +11,7 @@ use lib.ListN.{length, take, drop, getD, set, take-append-drop}
 use lib.Seq.{length-take-le}
 use Rattle.decibel.specs.Told.{Told, refused, gives}
 use Rattle.trie.specs.declared.Accepted.{Accepted}
+use Rattle.trie.specs.declared.Moved.{Moved}
 use Rattle.trie.specs.declared.Operation.{Operation}
 use Rattle.trie.specs.declared.Progress.{Progress}
 use Rattle.trie.specs.declared.Worker.{Worker}
@@ -22,7 +23,7 @@ use Rattle.trie.specs.Record.{idle, promisedOf}
 use Rattle.trie.specs.Sound.{boundsOf}
 use Rattle.trie.specs.Values.{Ok, ok, Course, acceptedOf, progressOf}
 use Rattle.trie.specs.Starting.{Started, startRecordOf}
-use Rattle.trie.specs.Stepping.{Stepped, stepRecordOf}
+use Rattle.trie.specs.Stepping.{Stepped, progressBy, workerBy, steppedBy, stepRecordOf}
 use Rattle.trie.specs.Calls.{State, state, After, after, check, manned, checkCall, startAt, startOf, stepAt, stepOf}
 use Rattle.lines.specs.declared.History.{History}
 use Rattle.lines.specs.declared.Reply.{Reply}
@@ -30,7 +31,7 @@ use Rattle.lines.specs.declared.Turn.{Turn}
 use Rattle.lines.specs.Text.{refusedText, acceptedText, courseText, replyText}
 use Rattle.lines.specs.Watch.{Watch, watch, mostCells, mostVersions, opened, lent, returned, Roomy}
 use Rattle.lines.specs.Turns.{Answered, answered, refuses, starts, steps, startLine, stepLine, turned}
-use Rattle.lines.specs.Records.{stepLent, startLent}
+use Rattle.lines.specs.Records.{whole, stepLent, startLent}
 
 pub record Going (h : History) : Type 0 where
   pub allows : allowed (h .cells) ≡ true
@@ -76,6 +77,11 @@ lent-room v versions h r =
 -- nothing is changed where what was lent comes back as it was
 pub back : (v : ℕ) (s : Watch) → returned v (lent v s) s ≡ s
 back v s = ap (λ (vs : List ℕ). watch (s .history) (s .nodes) vs (s .board)) (take-append-drop (width * v) (s .versions))
+
+-- a record that moved, by what its step tells and by the record after it
+pub paced : (v : ℕ) (versions : List ℕ) (m : Moved) (was next : Worker) (p : Progress) (nodes′ versions′ : List ℕ) (s : Stepped) → p ≡ progressBy m → next ≡ workerBy m was → steppedBy m was nodes′ versions′ ≡ s
+    → whole v versions (record { told = progressOf p; worker = next; nodes = nodes′; versions = versions′ }) ≡ whole v versions s
+paced v versions m was next p nodes′ versions′ s ep en e = ap (whole v versions) ((λ i. record { told = progressOf (ep i); worker = en i; nodes = nodes′; versions = versions′ }) ∙ e)
 
 -- ---- refused lines
 

@@ -1,4 +1,4 @@
-mod Texts
+pub mod Texts
 mod Boards
 mod Going
 mod Opens

@@ -28,7 +28,7 @@ pub(crate) fn is_open(h: History) -> bool
     let n = h.cells;
     let w = h.workers;
     let v = h.versions;
-    if !steps::is_allowed(n) {
+    if !tables::is_allowed(n) {
         return false;
     }
     if 16 < n {
@@ -59,7 +59,7 @@ pub(crate) fn promised(share: u64, workers: usize, board: [Worker; 16]) -> Promi
     let mut i = 0;
     while i < workers {
         let w = board[i];
-        sum = add(sum, steps::owed(share, w));
+        sum = add(sum, tables::owed(share, w));
         i += 1;
     }
     sum

@@ -32,6 +32,12 @@ pub enum Reply {
     Progress(Progress),
 }
 
+// A record after a step, and what the step tells.
+pub struct Paced {
+    pub progress: Progress,
+    pub worker: Worker,
+}
+
 // A line's answer, with the history and the board after it.
 pub struct Turn {
     pub reply: Reply,

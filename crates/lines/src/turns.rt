@@ -11,6 +11,7 @@ ghost use Rattle.lines.specs.Watch.{watch, opened, Roomy};
 ghost use Rattle.lines.specs.Turns.{Answered, turned, refuses, openLine, startLine, stepLine, lineTurn};
 ghost use Rattle.lines.specs.Records.{stepLent, startLent, wordsOf};
 use crate::History;
+use crate::Paced;
 use crate::Reply;
 use crate::Turn;
 use crate::board::is_open;
@@ -20,7 +21,6 @@ use grammar::Command;
 use grammar::Line;
 use trie::Accepted;
 use trie::Begun;
-use trie::Moved;
 use trie::Operation;
 use trie::Worker;
 
@@ -35,7 +35,7 @@ fn refuse(number: u64, history: History, board: [Worker; 16]) -> Turn
 }
 
 // Steps one record of a history that is under way.
-pub(crate) fn step_lent(h: History, was: Worker, nodes: &mut [u64], versions: &mut [u64]) -> Moved
+pub(crate) fn step_lent(h: History, was: Worker, nodes: &mut [u64], versions: &mut [u64]) -> Paced
     requires { ⌜ Roomy (now nodes) (now versions) ⌝ }
     requires { ⌜ opened h ≡ true ⌝ }
     ensures { λ r. ⌜ _≡_ {A = Stepped} (record { told = progressOf (r .progress); worker = r .worker; nodes = now (nodes .exit); versions = now (versions .exit) }) (stepLent h was (now (nodes .entry)) (now (versions .entry))) ⌝ }
@@ -43,7 +43,11 @@ pub(crate) fn step_lent(h: History, was: Worker, nodes: &mut [u64], versions: &m
     let n = h.cells;
     let v = h.versions;
     let lent = (5 * v) as usize;
-    steps::step_record(n, was, nodes, &mut versions[..lent])
+    let moved = steps::step_record(n, was, nodes, &mut versions[..lent]);
+    Paced {
+        progress: steps::progress_after(moved),
+        worker: steps::worker_after(moved, was),
+    }
 }
 
 // Starts an operation in one record of a history that is under way.
@@ -63,7 +67,7 @@ pub(crate) fn start_lent(
     let v = h.versions;
     let workers = h.workers;
     let lent = (5 * v) as usize;
-    let sum = promised(steps::height(n) + 1, workers as usize, board);
+    let sum = promised(tables::height(n) + 1, workers as usize, board);
     steps::start_record(n, o, sum, was, nodes, &versions[..lent])
 }
 
@@ -133,7 +137,7 @@ fn words(v: u64) -> usize
 fn unmanned(n: u64) -> u64
     ensures { λ r. ⌜ r ≡ pick (allowed n) 2 1 ⌝ }
 {
-    if steps::is_allowed(n) { 2 } else { 1 }
+    if tables::is_allowed(n) { 2 } else { 1 }
 }
 
 fn open(

@@ -1,13 +1,12 @@
 -- How a start goes by its tests: each law over plain numbers, as a walk of the code meets them.
 -- Assumes nothing.
-use mathlib.Core.Path.{_≡_, refl, sym, ap, _∙_, subst}
+use mathlib.Core.Path.{_≡_, sym, ap, _∙_}
 use mathlib.Core.Bool.{Bool, true, false, not}
 use mathlib.Core.List.{List}
-use Prim.Native.Nat.{ℕ, _+_, _≤_}
+use Prim.Native.Nat.{ℕ, _+_}
 use native.Mathlib.Omega.{arith}
-use borrow.Author.Tests.{not-true, not-false, leb-false, lt-leb}
+use borrow.Author.Tests.{not-true, not-false, leb-false, le-leb, lt-leb}
 use lib.Dec.{leb}
-use Rattle.decibel.specs.Told.{Told, refused}
 use Rattle.trie.specs.declared.Accepted.{Accepted}
 use Rattle.trie.specs.declared.Begun.{Begun}
 use Rattle.trie.specs.declared.Operation.{Operation}
@@ -16,13 +15,14 @@ use Rattle.trie.specs.declared.Worker.{Worker}
 use Rattle.trie.specs.declared.Bounds.{Bounds}
 use Rattle.trie.specs.declared.Update.{Update}
 use Rattle.trie.specs.declared.Query.{Query}
+use Rattle.trie.specs.Choice.{pick}
 use Rattle.trie.specs.Size.{mostCells, allowed}
 use Rattle.trie.specs.Tables.{roomy}
 use Rattle.trie.specs.Sound.{boundsOf, usedSound}
 use Rattle.trie.specs.Record.{busy, operationFits}
 use Rattle.trie.specs.Values.{acceptedOf}
 use Rattle.trie.specs.Starting.{Started, records, shared, granted, startRecordOf}
-use Rattle.steps.proofs.Tests.{Allowed, allowed-range}
+use Rattle.tables.specs.Tests.{Allowed, allowed-range}
 
 -- the code's answer, as the definitions have it
 abbrev pub begun : Begun → Started
@@ -35,6 +35,13 @@ pub room-past : (used promised share room : ℕ) (t : Bool) → t ≡ leb (used 
 room-past used promised share room t e q =
     let l = leb-false (used + promised) room (sym e ∙ not-true t q) in
     sym (lt-leb (used + promised + share) room (omega arith))
+
+pub room-sum : (used promised share room sum : ℕ) (t u : Bool) → t ≡ leb (used + promised) room → not t ≡ false → sum ≡ pick (leb (used + promised) room) (used + promised) 0
+    → u ≡ leb (sum + share) room → u ≡ leb (used + promised + share) room
+room-sum used promised share room sum t u e q es h = h ∙ ap (λ (x : ℕ). leb (x + share) room) (es ∙ formed)
+  where
+    formed : pick (leb (used + promised) room) (used + promised) 0 ≡ used + promised
+    formed = rw (sym e ∙ not-false t q)
 
 module _ (b : Bounds) (o : Operation) (promised : ℕ) (w : Worker) where
   pub share-accepts : (u : Update) (t : Bool) (r : Begun) → o ≡ Operation.Update u → t ≡ leb (b .used + promised + b .share) (b .room) → t ≡ true
@@ -68,6 +75,13 @@ module _ (b : Bounds) (o : Operation) (p : Promised) (w : Worker) (r : Begun) wh
 pub let-in : (n : ℕ) (t : Bool) → t ≡ allowed n → not t ≡ false → Allowed n
 let-in n t e q = allowed-range n (sym e ∙ not-false t q)
 
+-- and its bounds
+pub bounds-are : (n : ℕ) (nodes versions : List ℕ) (b : Bounds) (t : Bool) → b ≡ boundsOf (pick (leb n mostCells) n 0) nodes versions → t ≡ allowed n → not t ≡ false → b ≡ boundsOf n nodes versions
+bounds-are n nodes versions b t eb e q = eb ∙ ap (λ (m : ℕ). boundsOf m nodes versions) same
+  where
+    same : pick (leb n mostCells) n 0 ≡ n
+    same = rw (le-leb n mostCells (let-in n t e q .high))
+
 module _ (n : ℕ) (o : Operation) (p : Promised) (w : Worker) (nodes versions : List ℕ) (r : Begun) (t1 : Bool) (e1 : t1 ≡ allowed n) where
   pub start-1 : not t1 ≡ true → r ≡ refusal 1 w → begun r ≡ startRecordOf n o p w nodes versions
   unfolding startRecordOf
@@ -88,14 +102,7 @@ module _ (n : ℕ) (o : Operation) (p : Promised) (w : Worker) (nodes versions :
         unfolding startRecordOf
         start-7 q h = rw (sym e1 ∙ not-false t1 q1, sym e3 ∙ not-false t3 q3, sym e5 ∙ q5, sym e7 ∙ not-true t7 q) (ap begun h)
 
-        pub start-grants : (b : Bounds) → not t7 ≡ false → b ≡ boundsOf n nodes versions → begun r ≡ granted b o p w → begun r ≡ startRecordOf n o p w nodes versions
+        pub start-grants : (b : Bounds) → not t7 ≡ false → b ≡ boundsOf (pick (leb n mostCells) n 0) nodes versions → begun r ≡ granted b o p w → begun r ≡ startRecordOf n o p w nodes versions
         unfolding startRecordOf
         start-grants b q7 eb h =
-            rw (sym e1 ∙ not-false t1 q1, sym e3 ∙ not-false t3 q3, sym e5 ∙ q5, sym e7 ∙ not-false t7 q7) (h ∙ ap (λ (x : Bounds). granted x o p w) eb)
-
--- the bounds of n cells have n for their cells
-pub bounds-cells : (n : ℕ) (nodes versions : List ℕ) (b : Bounds) → b ≡ boundsOf n nodes versions → Allowed n → (1 ≤ b .cells) × (b .cells ≤ mostCells)
-unfolding boundsOf
-bounds-cells n nodes versions b e a =
-    let same : b .cells ≡ n = ap (λ (x : Bounds). x .cells) e in
-    (omega (arith, a .low), omega (arith, a .high))
+            rw (sym e1 ∙ not-false t1 q1, sym e3 ∙ not-false t3 q3, sym e5 ∙ q5, sym e7 ∙ not-false t7 q7) (h ∙ ap (λ (x : Bounds). granted x o p w) (bounds-are n nodes versions b t1 eb e1 q1))

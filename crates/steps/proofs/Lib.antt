@@ -1,10 +1,3 @@
-pub mod Orders
-pub mod Paths
-pub mod Tests
-pub mod Converting
-pub mod Looking
-pub mod Refreshes
-pub mod Walks
 pub mod Grants
 pub mod Carries
 pub mod Fills

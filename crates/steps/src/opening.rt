@@ -3,12 +3,11 @@
 ghost use mathlib.Core.Path.{_≡_};
 ghost use Prim.Native.Nat.{_+_, _*_, _-_, _≤_};
 ghost use Rattle.trie.specs.Size.{mostCells};
-ghost use Rattle.trie.specs.Tables.{width};
 ghost use Rattle.trie.specs.Values.{acceptedOf};
-ghost use Rattle.trie.specs.Opening.{Opened, filled, firstNode, firstWord, openNodes, openVersions, openTablesOf};
-use crate::size::is_allowed;
-use crate::tables::is_roomy;
-use crate::tables::put;
+ghost use Rattle.trie.specs.Opening.{Opened, firstNode, firstWord, openNodes, openVersions, openTablesOf};
+use tables::is_allowed;
+use tables::is_roomy;
+use tables::put;
 use trie::Accepted;
 
 fn first_node(n: u64, x: u64) -> u64

@@ -1,19 +1,18 @@
 // Start records an operation in an idle record, and does nothing else.
 // An update is accepted only where all that is promised still has room, so that it never lacks a version later.
 ghost use mathlib.Core.Path.{_≡_};
-ghost use Prim.Native.Nat.{_+_, _≤_};
+ghost use Prim.Native.Nat.{_+_};
 ghost use lib.Dec.{leb};
-ghost use Rattle.trie.specs.Size.{mostCells};
 ghost use Rattle.trie.specs.Values.{acceptedOf};
 ghost use Rattle.trie.specs.Starting.{Started, records, shared, granted, startRecordOf};
-use crate::record::is_busy;
-use crate::record::operation_fits;
-use crate::size::is_allowed;
-use crate::sound::bounds;
-use crate::sound::is_used_sound;
-use crate::sound::is_within;
-use crate::sound::sum_within;
-use crate::tables::is_roomy;
+use tables::bounds;
+use tables::is_allowed;
+use tables::is_busy;
+use tables::is_roomy;
+use tables::is_used_sound;
+use tables::is_within;
+use tables::operation_fits;
+use tables::sum_within;
 use trie::Accepted;
 use trie::Begun;
 use trie::Bounds;
@@ -79,7 +78,6 @@ fn share(b: Bounds, o: Operation, promised: u64, w: Worker) -> Begun
 }
 
 fn grant(b: Bounds, o: Operation, promised: Promised, w: Worker) -> Begun
-    requires { ⌜ (1 ≤ b .cells) × (b .cells ≤ mostCells) ⌝ }
     ensures { λ r. ⌜ _≡_ {A = Started} (record { told = acceptedOf (r .accepted); worker = r .worker }) (granted b o promised w) ⌝ }
 {
     match promised {

@@ -2,78 +2,79 @@
 // All writing to the tables is in `carry`, so a refused step visibly changes nothing.
 ghost use mathlib.Core.Path.{_≡_};
 ghost use Prim.Native.Nat.{_≤_};
+ghost use Rattle.trie.specs.declared.Worker.{Worker};
 ghost use Rattle.trie.specs.Size.{mostCells, tallest};
-ghost use Rattle.trie.specs.Values.{progressOf};
-ghost use Rattle.trie.specs.Stepping.{Stepped, movedTo, planOf, carryOf, stepRecordOf};
-use crate::asking::ask;
-use crate::asking::find;
-use crate::asking::rank;
-use crate::asking::select;
-use crate::leaf::read;
-use crate::leaf::swap;
-use crate::record::is_busy;
-use crate::record::rested;
-use crate::refreshing::refresh;
-use crate::size::is_allowed;
-use crate::sound::bounds;
-use crate::sound::is_used_sound;
-use crate::tables::is_roomy;
-use crate::tables::put;
-use crate::tables::store;
-use trie::Answer;
+ghost use Rattle.trie.specs.Stepping.{movedTo, progressBy, workerBy, hasMoved, steppedBy, planOf, carryOf, stepRecordOf};
+use asking::ask;
+use asking::find;
+use asking::rank;
+use asking::select;
+use climbing::read;
+use climbing::refresh;
+use climbing::swap;
+use tables::bounds;
+use tables::is_allowed;
+use tables::is_busy;
+use tables::is_roomy;
+use tables::is_used_sound;
+use tables::put;
+use tables::rested;
+use tables::store;
 use trie::Bounds;
 use trie::Moved;
 use trie::Next;
-use trie::NodeNumber;
 use trie::Phase;
 use trie::Plan;
 use trie::Progress;
-use trie::VersionNumber;
 use trie::Worker;
 
-fn plan(b: Bounds, phase: Phase, nodes: &[u64], versions: &[u64]) -> Plan
-    requires { ⌜ (1 ≤ b .cells) × (b .cells ≤ mostCells) × (b .height ≤ tallest) ⌝ }
-    ensures { λ p. ⌜ p ≡ planOf b phase (now (nodes .entry)) (now (versions .entry)) ⌝ }
+// What a step tells of the record that it moved.
+pub fn progress_after(moved: Moved) -> Progress
+    ensures { λ r. ⌜ r ≡ progressBy moved ⌝ }
 {
-    if !is_used_sound(b) {
-        return Plan::Damaged;
-    }
-    match phase {
-        Phase::Idle => Plan::Damaged,
-        Phase::Read(u) => read(b, u, nodes, versions),
-        Phase::Swap(u, v) => swap(b, u, v, nodes, versions),
-        Phase::Refresh(c, held) => refresh(b, c, held, nodes, versions),
-        Phase::Ask(q) => ask(b, q, nodes, versions),
-        Phase::Find(k, s) => find(b, k, s, versions),
-        Phase::Rank(k, s, count, energy) => rank(b, k, s, count, energy, versions),
-        Phase::Select(j, s, x, passed) => select(b, j, s, x, passed, versions),
+    match moved {
+        Moved::Refused(number) => Progress::Refused(number),
+        Moved::On(_) => Progress::On,
+        Moved::Done(answer) => Progress::Done(answer),
     }
 }
 
-// An answer leaves the record as open does.
+// The record after a step: as it was after a refusal, and as open leaves it after an answer.
+pub fn worker_after(moved: Moved, w: Worker) -> Worker
+    ensures { λ r. ⌜ r ≡ workerBy moved w ⌝ }
+{
+    match moved {
+        Moved::Refused(_) => w,
+        Moved::On(next) => next,
+        Moved::Done(_) => rested(),
+    }
+}
+
+// Whether there is a record to be stored.
+pub fn has_moved(moved: Moved) -> bool
+    ensures { λ r. ⌜ r ≡ hasMoved moved ⌝ }
+{
+    match moved {
+        Moved::Refused(_) => false,
+        Moved::On(_) => true,
+        Moved::Done(_) => true,
+    }
+}
+
 fn settle(next: Next) -> Moved
     ensures { λ r. ⌜ r ≡ movedTo next ⌝ }
 {
     match next {
-        Next::On(w) => Moved {
-            progress: Progress::On,
-            worker: w,
-        },
-        Next::Done(a) => Moved {
-            progress: Progress::Done(a),
-            worker: rested(),
-        },
+        Next::On(w) => Moved::On(w),
+        Next::Done(a) => Moved::Done(a),
     }
 }
 
-fn carry(p: Plan, w: Worker, nodes: &mut [u64], versions: &mut [u64]) -> Moved
-    ensures { λ r. ⌜ _≡_ {A = Stepped} (record { told = progressOf (r .progress); worker = r .worker; nodes = now (nodes .exit); versions = now (versions .exit) }) (carryOf p w (now (nodes .entry)) (now (versions .entry))) ⌝ }
+fn carry(p: Plan, nodes: &mut [u64], versions: &mut [u64]) -> Moved
+    ensures { λ r. ⌜ ((w : Worker) → steppedBy r w (now (nodes .exit)) (now (versions .exit)) ≡ carryOf p w (now (nodes .entry)) (now (versions .entry))) ⌝ }
 {
     match p {
-        Plan::Damaged => Moved {
-            progress: Progress::Refused(9),
-            worker: w,
-        },
+        Plan::Damaged => Moved::Refused(9),
         Plan::Keep(next) => settle(next),
         Plan::Put(v, x, r, next) => {
             store(versions, v, r);
@@ -84,29 +85,44 @@ fn carry(p: Plan, w: Worker, nodes: &mut [u64], versions: &mut [u64]) -> Moved
     }
 }
 
+// Each phase carries its plan out by itself: plans of all phases brought together first would be copied once more.
+fn turn(b: Bounds, phase: Phase, nodes: &mut [u64], versions: &mut [u64]) -> Moved
+    requires { ⌜ (b .cells ≤ mostCells) × (b .height ≤ tallest) ⌝ }
+    ensures { λ r. ⌜ ((w : Worker) → steppedBy r w (now (nodes .exit)) (now (versions .exit)) ≡ carryOf (planOf b phase (now (nodes .entry)) (now (versions .entry))) w (now (nodes .entry)) (now (versions .entry))) ⌝ }
+{
+    if !is_used_sound(b) {
+        return Moved::Refused(9);
+    }
+    match phase {
+        Phase::Idle => Moved::Refused(9),
+        Phase::Read(u) => carry(read(b, u, nodes, versions), nodes, versions),
+        Phase::Swap(u, v) => carry(swap(b, u, v, nodes, versions), nodes, versions),
+        Phase::Refresh(c, held) => carry(refresh(b, c, held, nodes, versions), nodes, versions),
+        Phase::Ask(q) => carry(ask(b, q, nodes, versions), nodes, versions),
+        Phase::Find(k, s) => carry(find(b, k, s, versions), nodes, versions),
+        Phase::Rank(k, s, count, energy) => {
+            carry(rank(b, k, s, count, energy, versions), nodes, versions)
+        }
+        Phase::Select(j, s, x, passed) => {
+            carry(select(b, j, s, x, passed, versions), nodes, versions)
+        }
+    }
+}
+
 // Steps one record on the lent tables: refusals 1, 3, 6 and 9.
 pub fn step_record(n: u64, w: Worker, nodes: &mut [u64], versions: &mut [u64]) -> Moved
-    ensures { λ r. ⌜ _≡_ {A = Stepped} (record { told = progressOf (r .progress); worker = r .worker; nodes = now (nodes .exit); versions = now (versions .exit) }) (stepRecordOf n w (now (nodes .entry)) (now (versions .entry))) ⌝ }
+    ensures { λ r. ⌜ steppedBy r w (now (nodes .exit)) (now (versions .exit)) ≡ stepRecordOf n w (now (nodes .entry)) (now (versions .entry)) ⌝ }
 {
     if !is_allowed(n) {
-        return Moved {
-            progress: Progress::Refused(1),
-            worker: w,
-        };
+        return Moved::Refused(1);
     }
     if !is_roomy(n, nodes, versions) {
-        return Moved {
-            progress: Progress::Refused(3),
-            worker: w,
-        };
+        return Moved::Refused(3);
     }
     if !is_busy(w) {
-        return Moved {
-            progress: Progress::Refused(6),
-            worker: w,
-        };
+        return Moved::Refused(6);
     }
     let phase = w.phase;
-    let p = plan(bounds(n, nodes, versions), phase, nodes, versions);
-    carry(p, w, nodes, versions)
+    let b = bounds(n, nodes, versions);
+    turn(b, phase, nodes, versions)
 }

@@ -11,7 +11,8 @@ use Rattle.trie.specs.declared.Worker.{Worker}
 use Rattle.trie.specs.Values.{Value, Ok, Course, valueOf, acceptedOf, progressOf}
 use Rattle.trie.specs.Opening.{Opened}
 use Rattle.trie.specs.Starting.{Started}
-use Rattle.trie.specs.Stepping.{Stepped}
+use Rattle.trie.specs.declared.Moved.{Moved}
+use Rattle.trie.specs.Stepping.{progressBy, workerBy, steppedBy, Stepped}
 use Rattle.trie.specs.Calls.{State, After, after}
 
 -- a contract that states its answer outright leaves one
@@ -87,6 +88,25 @@ step-decided r a b v w nodes nodes′ versions versions′ p q = (
   ap (λ (s : Stepped). s .nodes) (p ∙ sym q),
   ap (λ (s : Stepped). s .versions) (p ∙ sym q),
 )
+
+-- a step's outcome is known by what it tells and the record after it
+moved-one : (a b : Moved) (w : Worker) → progressBy a ≡ progressBy b → workerBy a w ≡ workerBy b w → a ≡ b
+moved-one (Moved.Refused n) (Moved.Refused m) w p q = cc
+moved-one (Moved.Refused n) (Moved.On v) w p q = absurd (let z : _≡_ {A = ℕ} 0 1 = cc in omega arith)
+moved-one (Moved.Refused n) (Moved.Done x) w p q = absurd (let z : _≡_ {A = ℕ} 0 1 = cc in omega arith)
+moved-one (Moved.On v) (Moved.Refused n) w p q = absurd (let z : _≡_ {A = ℕ} 0 1 = cc in omega arith)
+moved-one (Moved.On v) (Moved.On v′) w p q = ap Moved.On q
+moved-one (Moved.On v) (Moved.Done x) w p q = absurd (let z : _≡_ {A = ℕ} 0 1 = cc in omega arith)
+moved-one (Moved.Done x) (Moved.Refused n) w p q = absurd (let z : _≡_ {A = ℕ} 0 1 = cc in omega arith)
+moved-one (Moved.Done x) (Moved.On v) w p q = absurd (let z : _≡_ {A = ℕ} 0 1 = cc in omega arith)
+moved-one (Moved.Done x) (Moved.Done y) w p q = cc
+
+-- stepping a record: `stepRecordOf n w nodes versions`
+pub moved-decided : (r : Stepped) (a b : Moved) (w : Worker) (nodes nodes′ versions versions′ : List ℕ) → steppedBy a w nodes versions ≡ r → steppedBy b w nodes′ versions′ ≡ r
+    → (a ≡ b) × (nodes ≡ nodes′) × (versions ≡ versions′)
+moved-decided r a b w nodes nodes′ versions versions′ p q =
+    let d = step-decided r (progressBy a) (progressBy b) (workerBy a w) (workerBy b w) nodes nodes′ versions versions′ p q in
+    (moved-one a b w (d .0) (d .1), d .2, d .3)
 
 -- ---- the calls
 

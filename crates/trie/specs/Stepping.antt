@@ -16,7 +16,7 @@ use Rattle.trie.specs.Size.{allowed}
 use Rattle.trie.specs.Tables.{versionPut, roomy}
 use Rattle.trie.specs.Sound.{boundsOf, usedSound}
 use Rattle.trie.specs.Record.{idle, busy}
-use Rattle.trie.specs.Values.{Course, on, done, valueOf}
+use Rattle.trie.specs.Values.{Course, on, done, valueOf, progressOf}
 use Rattle.trie.specs.Leaf.{sure, readOf, swapOf}
 use Rattle.trie.specs.Refreshing.{refreshOf}
 use Rattle.trie.specs.Asking.{askOf, findOf, rankOf, selectOf}
@@ -53,10 +53,29 @@ abbrev pub afterNext : Next → List ℕ → List ℕ → Stepped
 afterNext (Next.On w) nodes versions = record { told = gives on; worker = w; nodes = nodes; versions = versions }
 afterNext (Next.Done a) nodes versions = record { told = gives (done (valueOf a)); worker = idle; nodes = nodes; versions = versions }
 
--- the same, as the code's answer
+-- the same, as the code has it
 abbrev pub movedTo : Next → Moved
-movedTo (Next.On w) = record { progress = Progress.On; worker = w }
-movedTo (Next.Done a) = record { progress = Progress.Done a; worker = idle }
+movedTo (Next.On w) = Moved.On w
+movedTo (Next.Done a) = Moved.Done a
+
+-- what a step tells of the record that it moved, and the record after it
+abbrev pub progressBy : Moved → Progress
+progressBy (Moved.Refused number) = Progress.Refused number
+progressBy (Moved.On w) = Progress.On
+progressBy (Moved.Done a) = Progress.Done a
+
+abbrev pub workerBy : Moved → Worker → Worker
+workerBy (Moved.Refused number) w = w
+workerBy (Moved.On next) w = next
+workerBy (Moved.Done a) w = idle
+
+abbrev pub hasMoved : Moved → Bool
+hasMoved (Moved.Refused number) = false
+hasMoved (Moved.On w) = true
+hasMoved (Moved.Done a) = true
+
+abbrev pub steppedBy : Moved → Worker → List ℕ → List ℕ → Stepped
+steppedBy m w nodes versions = record { told = progressOf (progressBy m); worker = workerBy m w; nodes = nodes; versions = versions }
 
 -- a swap that succeeds: one version more, which is the node's; word 0 counts it
 unfoldable pub carryOf : Plan → Worker → List ℕ → List ℕ → Stepped

@@ -36,13 +36,14 @@ pub enum Operation {
     Query(Query),
 }
 
-// An update on its way up: its result, the inner node at which it is, whether this is its second refresh there, and the versions that it has made.
+// An update on its way up: the inner node at which it is, the versions that it has made, its result, and whether this is its second refresh there.
+// The two bools stand last, where no other phase has a word: records are copied faster so.
 pub struct Climb {
     pub update: Update,
-    pub yes: bool,
     pub node: NodeNumber,
-    pub second: bool,
     pub made: u64,
+    pub yes: bool,
+    pub second: bool,
 }
 
 // What the present refresh has read: the node's version, then the left child's, then the right child's.
@@ -127,6 +128,12 @@ pub struct Bounds {
     pub room: u64,
 }
 
+// N and both tables judged: refusal 1 or 3, or the bounds of a tree.
+pub enum Sized {
+    Refused(u64),
+    Of(Bounds),
+}
+
 // The two children of the version at which a query stands, and whether they are leaves.
 pub struct Fork {
     pub left: VersionNumber,
@@ -147,10 +154,11 @@ pub enum Reached {
     Of(u64),
 }
 
-// A record after a step, and what the step answers.
-pub struct Moved {
-    pub progress: Progress,
-    pub worker: Worker,
+// What a step makes of a record: nothing, as it is refused; the record one step further on; or an answer, which leaves it idle.
+pub enum Moved {
+    Refused(u64),
+    On(Worker),
+    Done(Answer),
 }
 
 // A record after a start, and what the start answers.

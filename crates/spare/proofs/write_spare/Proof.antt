@@ -5,9 +5,6 @@ use native.Mathlib.Omega.{arith}
 use borrow.Author.Needs.{needs}
 use Rattle.spare.proofs.write_spare.Statement.{statement}
 use Rattle.spare.proofs.write_spare.Tie as tie
-use Rattle.spare.proofs.write_spare.Reads as reads
-use Rattle.spare.proofs.write_spare.Lts as lts
-use Rattle.spare.proofs.write_record.Reads as write-record-reads
 
 abbrev Inv-loop : tie.InvT-loop
 Inv-loop row i₀ i = i ≤ 20

@@ -4,10 +4,7 @@ use borrow.Author.Needs.{needs}
 use Rattle.board.specs.Judging.{mannedBy}
 use Rattle.board.proofs.judging.is_manned.Statement.{statement}
 use Rattle.board.proofs.judging.is_manned.Tie as tie
-use Rattle.board.proofs.judging.is_manned.Reads as reads
-use Rattle.board.proofs.judging.is_manned.Lts as lts
 
--- src/judging.rt:8:1
 returns : tie.Need-returns
 unfolding mannedBy
 returns c = search needs

@@ -5,27 +5,19 @@ use Rattle.board.specs.Judging.{roomyBy}
 use borrow.Author.Needs.{needs}
 use Rattle.board.proofs.judging.is_roomy.Statement.{statement}
 use Rattle.board.proofs.judging.is_roomy.Tie as tie
-use Rattle.board.proofs.judging.is_roomy.Reads as reads
-use Rattle.board.proofs.judging.is_roomy.Lts as lts
-use Rattle.board.proofs.judging.room.Reads as room-reads
 
--- src/judging.rt:25:9
 room-requires : tie.Need-room-requires
 room-requires c κs = search needs
 
--- src/judging.rt:26:6
 mul-result : tie.Need-mul-result
 mul-result c = search needs
 
--- src/judging.rt:26:32
 mul-result-2 : tie.Need-mul-result-2
 mul-result-2 c = search needs
 
--- src/judging.rt:26:32
 sub-result : tie.Need-sub-result
 sub-result c = search needs
 
--- src/judging.rt:21:1
 returns : tie.Need-returns
 unfolding roomyBy
 returns c = simp (c .room .ensures)

@@ -7,35 +7,25 @@ use Rattle.board.specs.Judging.{absentOf}
 use borrow.Author.Needs.{needs}
 use Rattle.board.proofs.judging.judge_absent.Statement.{statement}
 use Rattle.board.proofs.judging.judge_absent.Tie as tie
-use Rattle.board.proofs.judging.judge_absent.Reads as reads
-use Rattle.board.proofs.judging.judge_absent.Lts as lts
-use Rattle.board.proofs.judging.is_roomy.Reads as is-roomy-reads
-use Rattle.steps.proofs.is_allowed.Reads as is-allowed-reads
 
--- src/judging.rt:33:9
 is-allowed-requires : tie.Need-is-allowed-requires
 is-allowed-requires c κs = search needs
 
--- src/judging.rt:34:9
 returns : tie.Need-returns
 unfolding absentOf
 returns c = simp (sym (c .before .is-allowed .ensures) ∙ not-true _ (c .if1 .taken))
 
--- src/judging.rt:37:9
 returns-2 : tie.Need-returns-2
 unfolding absentOf
 returns-2 c = simp (sym (c .before .before .is-allowed .ensures) ∙ not-false _ (c .before .if1 .left), not-true (c .before .before .before .args .manned) (c .if2 .taken))
 
--- src/judging.rt:39:8
 is-roomy-requires : tie.Need-is-roomy-requires
 is-roomy-requires c κs = let r = sized _ (sym (c .before .before .is-allowed .ensures) ∙ not-false _ (c .before .if1 .left)) in (r .from, r .upTo)
 
--- src/judging.rt:30:1
 returns-3 : tie.Need-returns-3
 unfolding absentOf
 returns-3 c = simp (sym (c .before .before .before .before .is-allowed .ensures) ∙ not-false _ (c .before .before .before .if1 .left), not-false (c .before .before .before .before .before .args .manned) (c .before .before .if2 .left), sym (c .before .is-roomy .ensures) ∙ c .if3 .taken)
 
--- src/judging.rt:30:1
 returns-4 : tie.Need-returns-4
 unfolding absentOf
 returns-4 c = simp (sym (c .before .before .before .before .is-allowed .ensures) ∙ not-false _ (c .before .before .before .if1 .left), not-false (c .before .before .before .before .before .args .manned) (c .before .before .if2 .left), sym (c .before .is-roomy .ensures) ∙ c .if3 .left)

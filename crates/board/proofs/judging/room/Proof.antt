@@ -4,15 +4,11 @@ use borrow.Author.Tests.{le-leb, lt-leb}
 use Rattle.board.specs.Judging.{roomBy}
 use Rattle.board.proofs.judging.room.Statement.{statement}
 use Rattle.board.proofs.judging.room.Tie as tie
-use Rattle.board.proofs.judging.room.Reads as reads
-use Rattle.board.proofs.judging.room.Lts as lts
 
--- src/judging.rt:14:1
 returns : tie.Need-returns
 unfolding roomBy
 returns c = simp (le-leb _ _ (c .if1 .taken))
 
--- src/judging.rt:14:1
 returns-2 : tie.Need-returns-2
 unfolding roomBy
 returns-2 c = simp (lt-leb _ _ (c .if1 .left))

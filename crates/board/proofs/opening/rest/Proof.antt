@@ -51,7 +51,7 @@ use Rattle.trie.specs.Opening.{openBoard}
 use Rattle.trie.specs.OpenLaws.{open-board-length}
 use Rattle.board.specs.OpeningLaws.{rests-next, rests-none}
 use Rattle.board.proofs.Callee.{contractOf, calls-plain}
-use Rattle.board.proofs.Elem.{R, vals, tells, makes, lawful, step-fits}
+use Rattle.board.proofs.Elem.{R, vals, tells, makes, lawful, bytes, step-fits}
 use Rattle.board.proofs.opening.rested as rested
 use Rattle.board.proofs.opening.rested.Symbol as rested-def
 use Rattle.board.proofs.opening.rested.Symbol.{name as #rested}
@@ -136,7 +136,7 @@ module _ {M : Type 1} (𝓤 : URA M) (H : Heap 𝓤) (A : Atoms 𝓤) (W : Given
         stays ! (load ! (from ! (stop !)) (look ! 10 refl)) $
         assigns ! (bin ! (load ! (from ! (stop !)) (look ! 12 refl)) (lit ! tt) (step-fits (length ys) i room in-range)) (from ! (stop !)) (init ! 8 refl (tt, step-fits (length ys) i room in-range)) $
         assigns ! (bin ! (load ! (from ! (fld ! refl (stop !))) (look-in ! 16 (sub ! 0 refl (whole !)))) (load ! (from ! (stop !)) (look ! 8 refl)) tt) (from ! (stop !)) (init ! 6 refl (tt, tt)) $
-        rewrite ! 6 (λ (p : ℕ). ‵ (fat fullShare tyPtr l₇ 0 (vptr b p))) (sym (place-is 96 o i)) refl $
+        rewrite ! 6 (λ (p : ℕ). ‵ (fat fullShare tyPtr l₇ 0 (vptr b p))) (sym (place-is bytes o i)) refl $
         elem-out ! R (Is R) (shows 𝓤 H A R) vals tells fullShare (openBoard i ys) i idle b o within (λ _.
         assigns ! (of-opd ! (load ! (from ! (stop !)) (look ! 16 refl))) (from ! (hop ! (look ! 8 refl) (stop !))) (store-raw ! 0 refl (lawful 𝓤 H A W .typed idle (v ∷ []) is .0)) $
         move ! (1 ∷ []) $ drop ! $ owned ! R (Is R) (makes 𝓤 H A) idle (v ∷ []) is $ move ! (1 ∷ []) $ elem-put ! R fullShare (openBoard i ys) i idle (v ∷ []) b o within $

@@ -6,43 +6,31 @@ use Rattle.board.specs.PromisingLaws.{sum-fits}
 use borrow.Author.Needs.{needs}
 use Rattle.board.proofs.promising.owe_more.Statement.{statement}
 use Rattle.board.proofs.promising.owe_more.Tie as tie
-use Rattle.board.proofs.promising.owe_more.Reads as reads
-use Rattle.board.proofs.promising.owe_more.Lts as lts
-use Rattle.steps.proofs.owed.Reads as owed-reads
 
--- src/promising.rt:24:9
 owed-requires : tie.Need-owed-requires
 owed-requires c κs = search needs
 
--- src/promising.rt:26:30
 enum-told : tie.Need-enum-told
 enum-told c = search needs
 
--- src/promising.rt:27:22
 enum-known-sum : tie.Need-enum-known-sum
 enum-known-sum c = search needs
 
--- src/promising.rt:28:34
 enum-told-2 : tie.Need-enum-told-2
 enum-told-2 c = search needs
 
--- src/promising.rt:29:26
 enum-known-part : tie.Need-enum-known-part
 enum-known-part c = search needs
 
--- src/promising.rt:29:45
 add-t9 : tie.Need-add-t9
 add-t9 c = omega (arith, sum-fits _ _ (c .before .before .before .before .before .before .before .args .w .phase) _ _ (c .before .before .before .before .before .before .before .pre) (c .before .before .before .before .sum .given .1) (sym (c .before .part .given .1) ∙ c .before .before .before .before .before .before .owed .ensures))
 
--- src/promising.rt:20:1
 returns : tie.Need-returns
 returns c = search needs
 
--- src/promising.rt:20:1
 returns-2 : tie.Need-returns-2
 returns-2 c = simp (← c .before .before .before .before .before .owed .ensures, c .before .before .before .sum .given .1, c .enum-told2 .given .1)
 
--- src/promising.rt:20:1
 returns-3 : tie.Need-returns-3
 returns-3 c = simp (← c .before .before .before .before .before .before .owed .ensures, c .before .before .before .before .sum .given .1, c .before .part .given .1)
 

@@ -52,7 +52,7 @@ use Rattle.trie.proofs.Promised as Su
 use Rattle.board.specs.Promising.{sumOf, mostShare}
 use Rattle.board.specs.PromisingLaws.{promised-next, promised-bound}
 use Rattle.board.proofs.Callee.{contractOf, calls-plain}
-use Rattle.board.proofs.Elem.{R, vals, tells, makes, copies, lawful, step-fits, promised-makes, promised-lawful, sum-val, sum-tells, sum-is}
+use Rattle.board.proofs.Elem.{R, vals, tells, makes, copies, lawful, bytes, step-fits, promised-makes, promised-lawful, sum-val, sum-tells, sum-is}
 use Rattle.board.proofs.promising.nothing as nothing-yet
 use Rattle.board.proofs.promising.nothing.Symbol as nothing-yet-def
 use Rattle.board.proofs.promising.nothing.Symbol.{name as #nothing-yet}
@@ -157,7 +157,7 @@ module _ {M : Type 1} (𝓤 : URA M) (H : Heap 𝓤) (A : Atoms 𝓤) (W : Given
         stays ! (load ! (from ! (stop !)) (look ! 12 refl)) $
         assigns ! (bin ! (load ! (from ! (stop !)) (look ! 14 refl)) (lit ! tt) (step-fits (length ys) i room in-range)) (from ! (stop !)) (init ! 10 refl (tt, step-fits (length ys) i room in-range)) $
         assigns ! (bin ! (load ! (from ! (fld ! refl (stop !))) (look-in ! 18 (sub ! 0 refl (whole !)))) (load ! (from ! (stop !)) (look ! 10 refl)) tt) (from ! (stop !)) (init ! 8 refl (tt, tt)) $
-        rewrite ! 8 (λ (p : ℕ). ‵ (fat fullShare tyPtr l₈ 0 (vptr b p))) (sym (place-is 96 o i)) refl $
+        rewrite ! 8 (λ (p : ℕ). ‵ (fat fullShare tyPtr l₈ 0 (vptr b p))) (sym (place-is bytes o i)) refl $
         elem-out ! R (Is R) (shows 𝓤 H A R) vals tells q′ ys i idle b o in-range (λ g.
         assigns ! (of-opd ! (load ! (from ! (hop ! (look ! 10 refl) (stop !))) (look-raw ! 0 refl))) (from ! (stop !)) (init ! 8 refl (lawful 𝓤 H A W .typed elem (vals elem) g .0)) $
         elem-back ! R q′ ys i idle (vals elem) b o in-range $

@@ -63,7 +63,7 @@ use Rattle.board.specs.PromisingLaws.{share-small}
 use Rattle.board.specs.JudgingLaws.{judgedOf, seated, start-seated, start-refused}
 use Rattle.board.proofs.Callee.{contractOf, Last, leaves, asks-none, calls-told, calls-plain, calls-plain-last}
 use Rattle.board.proofs.Shared.{at-list, calls-shared}
-use Rattle.board.proofs.Elem.{R, vals, tells, makes, lawful, step-fits, begun-makes, begun-lawful, accepted-makes, accepted-lawful, promised-makes, promised-lawful, operation-makes, operation-lawful}
+use Rattle.board.proofs.Elem.{R, vals, tells, makes, lawful, bytes, step-fits, begun-makes, begun-lawful, accepted-makes, accepted-lawful, promised-makes, promised-lawful, operation-makes, operation-lawful}
 use Rattle.board.proofs.judging.judge as judge
 use Rattle.board.proofs.judging.judge.Symbol as judge-def
 use Rattle.board.proofs.judging.judge.Symbol.{name as #judge}
@@ -246,7 +246,7 @@ module _ {M : Type 1} (𝓤 : URA M) (H : Heap 𝓤) (A : Atoms 𝓤) (W : Given
         fsplit ! $ move ! (1 ∷ []) $ fsplit ! $ move ! (0 ∷ 1 ∷ 3 ∷ []) $ opens-slice ! tt R ys b₃ o₃ $ elem-out ! R (Is R) (shows 𝓤 H A R) vals tells fullShare ys i idle b₃ o₃ li (λ g.
         assigns ! (bin ! (load ! (from ! (stop !)) (look ! 39 refl)) (lit ! tt) (step-fits (length ys) i room₃ li)) (from ! (stop !)) (store ! 23 refl (tt, step-fits (length ys) i room₃ li)) $
         assigns ! (bin ! (load ! (from ! (fld ! refl (stop !))) (look-in ! 45 (sub ! 0 refl (whole !)))) (load ! (from ! (stop !)) (look ! 23 refl)) tt) (from ! (stop !)) (init ! 17 refl (tt, tt)) $
-        rewrite ! 17 (λ (m : ℕ). ‵ (fat fullShare tyPtr l₂₁ 0 (vptr b₃ m))) (sym (place-is 96 o₃ i)) refl $
+        rewrite ! 17 (λ (m : ℕ). ‵ (fat fullShare tyPtr l₂₁ 0 (vptr b₃ m))) (sym (place-is bytes o₃ i)) refl $
         assigns ! (of-opd ! (load ! (from ! (hop ! (look ! 17 refl) (stop !))) (look-raw ! 0 refl))) (from ! (stop !)) (init ! 15 refl (lawful 𝓤 H A W .typed elem (vals elem) g .0)) $
         move ! (12 ∷ []) $ use1 W (‵ (ShrSlice (named 0) κ₁ u64 .own (at-list b₁ o₁ γ₁ ns) (s₁ ∷ [])) ⊛ ‵ (ShrSlice (named 0) κ₁ u64 .own (at-list b₁ o₁ γ₁ ns) (s₁ ∷ []))) (shr-slice-copy 𝓤 H A W (named 0) κ₁ u64 .twice (at-list b₁ o₁ γ₁ ns) (s₁ ∷ [])) $ split ! $
         move ! (13 ∷ []) $ use1 W (‵ (ShrSlice (named 1) κ₂ u64 .own (at-list b₂ o₂ γ₂ vs) (s₂ ∷ [])) ⊛ ‵ (ShrSlice (named 1) κ₂ u64 .own (at-list b₂ o₂ γ₂ vs) (s₂ ∷ []))) (shr-slice-copy 𝓤 H A W (named 1) κ₂ u64 .twice (at-list b₂ o₂ γ₂ vs) (s₂ ∷ [])) $ split ! $
@@ -261,7 +261,7 @@ module _ {M : Type 1} (𝓤 : URA M) (H : Heap 𝓤) (A : Atoms 𝓤) (W : Given
         land ! (from ! (stop !)) (store ! 14 refl (lawful 𝓤 H A W .typed r₁ (v₁ ∷ []) is₁ .0)) $
         assigns ! (bin ! (load ! (from ! (stop !)) (look ! 38 refl)) (lit ! tt) (step-fits (length ys) i room₃ li)) (from ! (stop !)) (store ! 22 refl (tt, step-fits (length ys) i room₃ li)) $
         assigns ! (bin ! (load ! (from ! (fld ! refl (stop !))) (look-in ! 44 (sub ! 0 refl (whole !)))) (load ! (from ! (stop !)) (look ! 22 refl)) tt) (from ! (stop !)) (init ! 12 refl (tt, tt)) $
-        rewrite ! 12 (λ (m : ℕ). ‵ (fat fullShare tyPtr l₂₃ 0 (vptr b₃ m))) (sym (place-is 96 o₃ i)) refl $
+        rewrite ! 12 (λ (m : ℕ). ‵ (fat fullShare tyPtr l₂₃ 0 (vptr b₃ m))) (sym (place-is bytes o₃ i)) refl $
         assigns ! (of-opd ! (load ! (from ! (stop !)) (look ! 14 refl))) (from ! (hop ! (look ! 12 refl) (stop !))) (store-raw ! 5 refl (lawful 𝓤 H A W .typed r₁ (v₁ ∷ []) is₁ .0)) $
         move ! (6 ∷ []) $ drop ! $ owned ! R (Is R) (makes 𝓤 H A) r₁ (v₁ ∷ []) is₁ $ move ! (6 ∷ 0 ∷ 7 ∷ []) $ elem-put ! R fullShare ys i r₁ (v₁ ∷ []) b₃ o₃ li $
         move ! (0 ∷ 6 ∷ 7 ∷ 8 ∷ []) $ closes-slice ! tt R ys (set ys i r₁) (length-set ys i r₁) b₃ o₃ $ fjoin ! $ pureI ! (at-slice R (at-list b₃ o₃ γ₃ (set ys i r₁)) (s₃ ∷ [])) (tt, (tt, tt)) (ap (λ (m : ℕ). sliceVal (b₃, o₃) m ∷ []) (sym (length-set ys i r₁)), subst (Room R) (sym (length-set ys i r₁)) room₃) $ fjoin ! $

@@ -1,9 +1,9 @@
 -- `lines::turns::step_lent` meets its contract.
 -- Assumes nothing.
-use mathlib.Core.Path.{sym, ap}
+use mathlib.Core.Path.{sym}
 use native.Mathlib.Omega.{arith}
-use Rattle.lines.specs.Records.{whole, stepLent}
-use Rattle.lines.proofs.Going.{going, lent-long}
+use Rattle.lines.specs.Records.{stepLent}
+use Rattle.lines.proofs.Going.{going, lent-long, paced}
 use borrow.Author.Needs.{needs}
 use Rattle.lines.proofs.turns.step_lent.Statement.{statement}
 use Rattle.lines.proofs.turns.step_lent.Tie as tie
@@ -20,6 +20,12 @@ slice-aggregate-step-record c = sym (lent-long _ _ (going _ (c .before .before .
 step-record-requires : tie.Need-step-record-requires
 step-record-requires c κs = search needs
 
+progress-after-requires : tie.Need-progress-after-requires
+progress-after-requires c κs = search needs
+
+worker-after-requires : tie.Need-worker-after-requires
+worker-after-requires c κs = search needs
+
 same-length : tie.Need-same-length
 same-length c = search needs
 
@@ -28,7 +34,7 @@ same-length-2 c = search needs
 
 returns : tie.Need-returns
 unfolding stepLent
-returns c = ap (whole (c .before .before .before .before .before .before .before .before .before .args .h .versions) (c .before .before .before .before .before .before .before .before .before .args .versions .now)) (c .before .before .before .before .step-record .ensures)
+returns c = paced (c .before .before .before .before .before .before .before .before .before .before .before .args .h .versions) (c .before .before .before .before .before .before .before .before .before .before .before .args .versions .now) (c .before .before .before .before .before .before .step-record .result) (c .before .before .before .before .before .before .before .before .before .before .before .args .was) _ _ _ _ _ (c .before .progress-after .ensures) (c .worker-after .ensures) (c .before .before .before .before .before .before .step-record .ensures)
 
 pub step-lent-spec : {M : Type 1} → statement M
 step-lent-spec =
@@ -38,6 +44,8 @@ step-lent-spec =
     slice-relend-prefix-step-record
     slice-aggregate-step-record
     step-record-requires
+    progress-after-requires
+    worker-after-requires
     same-length
     same-length-2
     returns)

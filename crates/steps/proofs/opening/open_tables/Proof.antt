@@ -14,7 +14,7 @@ returns : tie.Need-returns
 returns c = open-1 _ _ _ _ (c .before .is-allowed .ensures) (c .if1 .taken)
 
 is-roomy-requires : tie.Need-is-roomy-requires
-is-roomy-requires c κs = let a = let-in _ _ (c .before .before .before .is-allowed .ensures) (c .before .before .if1 .left) in (a .low, a .high)
+is-roomy-requires c κs = search needs
 
 same-length : tie.Need-same-length
 same-length c = search needs

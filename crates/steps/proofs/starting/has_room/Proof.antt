@@ -1,8 +1,6 @@
 -- `steps::starting::has_room` meets its contract: no sum is formed that would pass V.
 -- Assumes nothing.
-use mathlib.Core.Path.{sym, _∙_}
-use borrow.Author.Tests.{not-false}
-use Rattle.steps.proofs.Grants.{room-past}
+use Rattle.steps.proofs.Grants.{room-past, room-sum}
 use borrow.Author.Needs.{needs}
 use Rattle.steps.proofs.starting.has_room.Statement.{statement}
 use Rattle.steps.proofs.starting.has_room.Tie as tie
@@ -14,13 +12,13 @@ returns : tie.Need-returns
 returns c = room-past (c .before .before .args .b .used) (c .before .before .args .promised) (c .before .before .args .b .share) (c .before .before .args .b .room) _ (c .before .is-within .ensures) (c .if1 .taken)
 
 sum-within-requires : tie.Need-sum-within-requires
-sum-within-requires c κs = sym (c .before .is-within .ensures) ∙ not-false _ (c .if1 .left)
+sum-within-requires c κs = search needs
 
 is-within-requires-2 : tie.Need-is-within-requires-2
 is-within-requires-2 c κs = search needs
 
 returns-2 : tie.Need-returns-2
-returns-2 c = simp (← c .before .sum-within .ensures) (c .is-within2 .ensures)
+returns-2 c = room-sum (c .before .before .before .before .args .b .used) (c .before .before .before .before .args .promised) (c .before .before .before .before .args .b .share) (c .before .before .before .before .args .b .room) _ _ _ (c .before .before .before .is-within .ensures) (c .before .before .if1 .left) (c .before .sum-within .ensures) (c .is-within2 .ensures)
 
 pub has-room-spec : {M : Type 1} → statement M
 has-room-spec =

@@ -1,6 +1,6 @@
 -- `steps::starting::start_record` meets its contract.
 -- Assumes nothing.
-use Rattle.steps.proofs.Grants.{let-in, bounds-cells, start-1, start-3, start-5, start-7, start-grants}
+use Rattle.steps.proofs.Grants.{start-1, start-3, start-5, start-7, start-grants}
 use borrow.Author.Needs.{needs}
 use Rattle.steps.proofs.starting.start_record.Statement.{statement}
 use Rattle.steps.proofs.starting.start_record.Tie as tie
@@ -15,7 +15,7 @@ returns : tie.Need-returns
 returns c = start-1 _ _ _ _ _ _ _ _ (c .before .before .is-allowed .ensures) (c .before .if1 .taken) (c .refuse .ensures)
 
 is-roomy-requires : tie.Need-is-roomy-requires
-is-roomy-requires c κs = let a = let-in _ _ (c .before .is-allowed .ensures) (c .if1 .left) in (a .low, a .high)
+is-roomy-requires c κs = search needs
 
 refuse-requires-2 : tie.Need-refuse-requires-2
 refuse-requires-2 c κs = search needs
@@ -42,10 +42,10 @@ returns-4 : tie.Need-returns-4
 returns-4 c = start-7 _ _ _ _ _ _ _ _ (c .before .before .before .before .before .before .before .before .is-allowed .ensures) (c .before .before .before .before .before .before .before .if1 .left) _ (c .before .before .before .before .before .before .is-roomy .ensures) (c .before .before .before .before .before .if2 .left) _ (c .before .before .before .before .is-busy .ensures) (c .before .before .before .if3 .left) _ (c .before .before .operation-fits .ensures) (c .before .if4 .taken) (c .refuse4 .ensures)
 
 bounds-requires : tie.Need-bounds-requires
-bounds-requires c κs = let-in _ _ (c .before .before .before .before .before .before .before .is-allowed .ensures) (c .before .before .before .before .before .before .if1 .left) .high
+bounds-requires c κs = search needs
 
 grant-requires : tie.Need-grant-requires
-grant-requires c κs = bounds-cells _ _ _ _ (c .bounds .ensures) (let-in _ _ (c .before .before .before .before .before .before .before .before .is-allowed .ensures) (c .before .before .before .before .before .before .before .if1 .left))
+grant-requires c κs = search needs
 
 returns-5 : tie.Need-returns-5
 returns-5 c = start-grants _ _ _ _ _ _ (c .grant .result) _ (c .before .before .before .before .before .before .before .before .before .is-allowed .ensures) (c .before .before .before .before .before .before .before .before .if1 .left) _ (c .before .before .before .before .before .before .before .is-roomy .ensures) (c .before .before .before .before .before .before .if2 .left) _ (c .before .before .before .before .before .is-busy .ensures) (c .before .before .before .before .if3 .left) _ (c .before .before .before .operation-fits .ensures) _ (c .before .before .if4 .left) (c .before .bounds .ensures) (c .grant .ensures)

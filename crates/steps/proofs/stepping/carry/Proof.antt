@@ -30,10 +30,10 @@ settle-requires-2 : tie.Need-settle-requires-2
 settle-requires-2 c κs = search needs
 
 returns : tie.Need-returns
-returns c = carry-damaged _ _ _ _ (c .enum-told .given .1)
+returns c = carry-damaged _ _ _ (c .enum-told .given .1)
 
 returns-2 : tie.Need-returns-2
-returns-2 c = carry-keeps _ _ _ _ _ _ (c .before .before .p .given .1) (c .settle .ensures)
+returns-2 c = carry-keeps _ _ _ _ _ (c .before .before .p .given .1) (c .settle .ensures)
 
 same-length : tie.Need-same-length
 same-length c = search needs
@@ -42,7 +42,7 @@ same-length-2 : tie.Need-same-length-2
 same-length-2 c = search needs
 
 returns-3 : tie.Need-returns-3
-returns-3 c = carry-puts _ _ _ _ _ _ _ _ _ _ _ _ (c .before .before .before .before .before .before .before .before .before .before .before .before .before .before .p2 .given .1) (c .settle2 .ensures) (c .before .before .before .before .before .before .before .before .before .before .before .store .ensures) (c .before .before .before .before .before .before .before .put .ensures) (c .before .before .before .put2 .ensures)
+returns-3 c = carry-puts _ _ _ _ _ _ _ _ _ _ _ (c .before .before .before .before .before .before .before .before .before .before .before .before .before .before .p2 .given .1) (c .settle2 .ensures) (c .before .before .before .before .before .before .before .before .before .before .before .store .ensures) (c .before .before .before .before .before .before .before .put .ensures) (c .before .before .before .put2 .ensures)
 
 pub carry-spec : {M : Type 1} → statement M
 carry-spec =

@@ -10,15 +10,11 @@ enum-known-next c = search needs
 enum-known-next-2 : tie.Need-enum-known-next-2
 enum-known-next-2 c = search needs
 
-rested-requires : tie.Need-rested-requires
-rested-requires c κs = search needs
-
 returns : tie.Need-returns
 returns c = simp (c .before .next .given .1)
 
 returns-2 : tie.Need-returns-2
-returns-2 c = simp (c .before .before .next2 .given .1, c .rested .ensures)
+returns-2 c = simp (c .before .next2 .given .1)
 
 pub settle-spec : {M : Type 1} → statement M
-settle-spec =
-    tie.close (tie.spec enum-known-next enum-known-next-2 rested-requires returns returns-2)
+settle-spec = tie.close (tie.spec enum-known-next enum-known-next-2 returns returns-2)

@@ -1,7 +1,6 @@
 -- `steps::stepping::step_record` meets its contract.
 -- Assumes nothing.
-use Rattle.steps.proofs.Grants.{let-in}
-use Rattle.steps.proofs.Carries.{bounds-fit, step-1, step-3, step-6, step-carries}
+use Rattle.steps.proofs.Carries.{bounds-fit, step-1, step-3, step-6, step-turns}
 use borrow.Author.Needs.{needs}
 use Rattle.steps.proofs.stepping.step_record.Statement.{statement}
 use Rattle.steps.proofs.stepping.step_record.Tie as tie
@@ -13,7 +12,7 @@ returns : tie.Need-returns
 returns c = step-1 _ _ _ _ _ (c .before .is-allowed .ensures) (c .if1 .taken)
 
 is-roomy-requires : tie.Need-is-roomy-requires
-is-roomy-requires c κs = let a = let-in _ _ (c .before .before .before .is-allowed .ensures) (c .before .before .if1 .left) in (a .low, a .high)
+is-roomy-requires c κs = search needs
 
 same-length : tie.Need-same-length
 same-length c = search needs
@@ -37,13 +36,10 @@ returns-3 : tie.Need-returns-3
 returns-3 c = step-6 _ _ _ _ _ (c .before .before .before .before .before .before .before .is-allowed .ensures) (c .before .before .before .before .before .before .if1 .left) _ (c .before .before .before .is-roomy .ensures) (c .before .before .if2 .left) _ (c .before .is-busy .ensures) (c .if3 .taken)
 
 bounds-requires : tie.Need-bounds-requires
-bounds-requires c κs = let-in _ _ (c .before .before .before .before .before .before .before .before .before .is-allowed .ensures) (c .before .before .before .before .before .before .before .before .if1 .left) .high
+bounds-requires c κs = search needs
 
-plan-requires : tie.Need-plan-requires
-plan-requires c κs = bounds-fit _ _ _ _ _ (c .before .before .bounds .ensures) (c .before .before .before .before .before .before .before .before .before .before .before .before .is-allowed .ensures) (c .before .before .before .before .before .before .before .before .before .before .before .if1 .left)
-
-carry-requires : tie.Need-carry-requires
-carry-requires c κs = search needs
+turn-requires : tie.Need-turn-requires
+turn-requires c κs = bounds-fit _ _ _ _ _ (c .before .before .bounds .ensures) (c .before .before .before .before .before .before .before .before .before .before .before .before .is-allowed .ensures) (c .before .before .before .before .before .before .before .before .before .before .before .if1 .left)
 
 same-length-5 : tie.Need-same-length-5
 same-length-5 c = search needs
@@ -52,7 +48,7 @@ same-length-6 : tie.Need-same-length-6
 same-length-6 c = search needs
 
 returns-4 : tie.Need-returns-4
-returns-4 c = step-carries _ _ _ _ _ (c .before .before .before .before .before .before .before .before .before .before .before .before .before .before .before .before .before .before .before .before .is-allowed .ensures) (c .before .before .before .before .before .before .before .before .before .before .before .before .before .before .before .before .before .before .before .if1 .left) _ (c .before .before .before .before .before .before .before .before .before .before .before .before .before .before .before .before .is-roomy .ensures) (c .before .before .before .before .before .before .before .before .before .before .before .before .before .before .before .if2 .left) _ (c .before .before .before .before .before .before .before .before .before .before .before .before .before .before .is-busy .ensures) _ _ _ (c .before .before .before .before .before .before .before .before .before .before .before .before .before .if3 .left) (c .before .before .before .before .before .before .before .before .before .before .bounds .ensures) (c .before .before .before .before .before .before .before .plan .ensures) (c .before .before .before .before .carry .ensures)
+returns-4 c = step-turns _ _ _ _ _ (c .before .before .before .before .before .before .before .before .before .before .before .before .before .before .before .before .before .is-allowed .ensures) (c .before .before .before .before .before .before .before .before .before .before .before .before .before .before .before .before .if1 .left) _ (c .before .before .before .before .before .before .before .before .before .before .before .before .before .is-roomy .ensures) (c .before .before .before .before .before .before .before .before .before .before .before .before .if2 .left) _ (c .before .before .before .before .before .before .before .before .before .before .before .is-busy .ensures) _ (c .before .before .before .before .turn .result) _ _ (c .before .before .before .before .before .before .before .before .before .before .if3 .left) (c .before .before .before .before .before .before .before .bounds .ensures) (c .before .before .before .before .turn .ensures)
 
 pub step-record-spec : {M : Type 1} → statement M
 step-record-spec =
@@ -69,8 +65,7 @@ step-record-spec =
     same-length-4
     returns-3
     bounds-requires
-    plan-requires
-    carry-requires
+    turn-requires
     same-length-5
     same-length-6
     returns-4)

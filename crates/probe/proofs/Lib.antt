@@ -1,0 +1,6 @@
+mod Bytes
+mod Kept
+mod Places
+mod Rows
+mod Sizes
+mod Texts

@@ -1,0 +1,67 @@
+-- Each record is read back out of its own twelve numbers.
+-- Assumes nothing.
+use mathlib.Core.Path.{_≡_, refl, ap, _∙_}
+use mathlib.Core.Bool.{Bool, true, false, _||_}
+use mathlib.Core.List.{List}
+use Prim.Native.Nat.{ℕ}
+use lib.Dec.{eqb, ltb}
+use Rattle.trie.specs.declared.Update.{Update}
+use Rattle.trie.specs.declared.Query.{Query}
+use Rattle.trie.specs.declared.Held.{Held}
+use Rattle.trie.specs.declared.Climb.{Climb}
+use Rattle.trie.specs.declared.Phase.{Phase}
+use Rattle.trie.specs.declared.Worker.{Worker}
+use Rattle.trie.specs.Choice.{pick}
+use Rattle.probe.specs.declared.asking.Change.{Change}
+use Rattle.probe.specs.declared.asking.Question.{Question}
+use Rattle.probe.specs.declared.records.Record.{Record}
+use Rattle.probe.specs.declared.records.Refresh.{Refresh}
+use Rattle.probe.specs.Fields.{bitOf, kindOf, cellOf, levelOf, askedOf, numberOf, readOf, nodeReadOf, leftReadOf, rightReadOf, updateFields, climbFields, phaseFields, fieldsOf}
+use Rattle.probe.specs.Asking.{changeOf, questionOf}
+use Rattle.probe.specs.Records.{allZero, inPhase, refreshOf, climbing, climbOf, updateIn, askIn, queryIn, recordOf}
+
+change-back : (u : Update) → changeOf (kindOf u) (cellOf u) (levelOf u) ≡ Change.Is u
+unfolding changeOf
+change-back (Update.Insert k l) = refl
+change-back (Update.Delete k) = refl
+
+question-back : (q : Query) → questionOf (askedOf q) (numberOf q) ≡ Question.Is q
+unfolding questionOf
+question-back (Query.Find k) = refl
+question-back (Query.Select j) = refl
+question-back (Query.Rank k) = refl
+question-back Query.Total = refl
+
+refresh-back : (h : Held) → refreshOf (readOf h) (nodeReadOf h) (leftReadOf h) (rightReadOf h) ≡ Refresh.Is h
+unfolding refreshOf
+refresh-back Held.Nothing = refl
+refresh-back (Held.Node v) = refl
+refresh-back (Held.Left v l) = refl
+refresh-back (Held.Both v l r) = refl
+
+-- 0 and 1 are told apart
+bits : (yes second : Bool) (u : Update) (c : Climb) (r : Refresh) → pick (ltb 1 (bitOf yes) || ltb 1 (bitOf second)) Record.Not (climbing (record { update = u; yes = eqb (bitOf yes) 1; node = c .node; second = eqb (bitOf second) 1; made = c .made }) r)
+    ≡ climbing (record { update = u; yes = yes; node = c .node; second = second; made = c .made }) r
+bits true true u c r = refl
+bits true false u c r = refl
+bits false true u c r = refl
+bits false false u c r = refl
+
+climb-back : (c : Climb) (h : Held) → climbOf (c .update) (climbFields c h) ≡ inPhase (Phase.Refresh c h)
+unfolding climbOf
+climb-back c h = bits (c .yes) (c .second) (c .update) c (refreshOf (readOf h) (nodeReadOf h) (leftReadOf h) (rightReadOf h)) ∙ ap (climbing c) (refresh-back h)
+
+phase-back : (p : Phase) → recordOf (phaseFields p) ≡ inPhase p
+unfolding recordOf updateIn askIn queryIn allZero
+phase-back Phase.Idle = refl
+phase-back (Phase.Read u) = ap (λ (x : Change). updateIn x (updateFields 1 u 0)) (change-back u)
+phase-back (Phase.Swap u v) = ap (λ (x : Change). updateIn x (updateFields 2 u (v .0))) (change-back u)
+phase-back (Phase.Refresh c h) = ap (λ (x : Change). updateIn x (climbFields c h)) (change-back (c .update)) ∙ climb-back c h
+phase-back (Phase.Ask q) = ap (λ (x : Question). askIn x (phaseFields (Phase.Ask q))) (question-back q)
+phase-back (Phase.Find k s) = refl
+phase-back (Phase.Rank k s c e) = refl
+phase-back (Phase.Select j s x c) = refl
+
+pub record-back : (w : Worker) → recordOf (fieldsOf w) ≡ Record.Is w
+unfolding fieldsOf
+record-back w = phase-back (w .phase)

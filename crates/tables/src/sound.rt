@@ -1,0 +1,103 @@
+// The bounds that a call is judged by, and whether a version may stand at a leaf or at an inner place.
+// Nothing is trusted here: any word may stand in a lent table.
+ghost use mathlib.Core.Path.{_≡_};
+ghost use Prim.Native.Nat.{_+_, _≤_};
+ghost use lib.Dec.{leb};
+ghost use Rattle.trie.specs.Choice.{pick};
+ghost use Rattle.trie.specs.Size.{mostCells};
+ghost use Rattle.trie.specs.Sound.{boundsOf, usedSound, leafSound, innerSound, soundAt, soundIn};
+use crate::size::height;
+use crate::words::load;
+use crate::words::room;
+use crate::words::word;
+use trie::Bounds;
+use trie::Version;
+use trie::VersionNumber;
+
+// As many cells as a tree may have, else none.
+fn within_a_tree(n: u64) -> u64
+    ensures { λ r. ⌜ r ≡ pick (leb n mostCells) n 0 ⌝ }
+    ensures { λ r. ⌜ r ≤ mostCells ⌝ }
+{
+    if n <= 4096 { n } else { 0 }
+}
+
+// Where no tree has n cells these are the bounds of none.
+pub fn bounds(n: u64, nodes: &[u64], versions: &[u64]) -> Bounds
+    ensures { λ r. ⌜ r ≡ boundsOf (pick (leb n mostCells) n 0) (now (nodes .entry)) (now (versions .entry)) ⌝ }
+{
+    let cells = within_a_tree(n);
+    let tall = height(cells);
+    Bounds {
+        cells: cells,
+        height: tall,
+        energy: cells * 1000000000,
+        share: tall + 1,
+        used: word(nodes, 0),
+        room: room(versions),
+    }
+}
+
+pub fn is_used_sound(b: Bounds) -> bool
+    ensures { λ r. ⌜ r ≡ usedSound b ⌝ }
+{
+    (b.cells <= b.used / 2 + b.used % 2) & (b.used <= b.room)
+}
+
+// No branch hangs on whether the cell is marked: nothing foretells that.
+fn is_leaf(r: Version) -> bool
+    ensures { λ t. ⌜ t ≡ leafSound r ⌝ }
+{
+    let bare = (r.left.0 == 0) & (r.right.0 == 0);
+    let silent = (r.energy.0 == 0) & (r.level.0 == 0);
+    let within = ((r.count <= 1) & (r.energy.0 <= 1000000000)) & (r.level.0 <= 60);
+    (bare & within) & (silent | (r.count == 1))
+}
+
+fn is_inner(b: Bounds, r: Version) -> bool
+    ensures { λ t. ⌜ t ≡ innerSound b r ⌝ }
+{
+    let left = (1 <= r.left.0) & (r.left.0 <= b.used);
+    if !left {
+        return false;
+    }
+    let right = (1 <= r.right.0) & (r.right.0 <= b.used);
+    if !right {
+        return false;
+    }
+    ((r.count <= b.cells) & (r.energy.0 <= b.energy)) & (r.level.0 == 0)
+}
+
+pub fn is_sound(b: Bounds, leaf: bool, v: VersionNumber, r: Version) -> bool
+    ensures { λ t. ⌜ t ≡ soundAt b leaf v r ⌝ }
+{
+    let number = (1 <= v.0) & (v.0 <= b.used);
+    if !number {
+        return false;
+    }
+    if leaf { is_leaf(r) } else { is_inner(b, r) }
+}
+
+// The version of number v, as it stands in the table.
+pub fn is_sound_in(b: Bounds, leaf: bool, versions: &[u64], v: VersionNumber) -> bool
+    ensures { λ t. ⌜ t ≡ soundIn b leaf (now (versions .entry)) v ⌝ }
+{
+    is_sound(b, leaf, v, load(versions, v))
+}
+
+// Whether a sum stays within a bound, without forming it where it would not.
+pub fn is_within(a: u64, b: u64, most: u64) -> bool
+    ensures { λ t. ⌜ t ≡ leb (a + b) most ⌝ }
+{
+    if most < a {
+        return false;
+    }
+    b <= most - a
+}
+
+// A sum that stays within a bound, and 0 for one that does not.
+pub fn sum_within(a: u64, b: u64, most: u64) -> u64
+    ensures { λ r. ⌜ r ≡ pick (leb (a + b) most) (a + b) 0 ⌝ }
+{
+    if is_within(a, b, most) { a + b } else { 0 }
+}
