@@ -22,7 +22,7 @@ use Rattle.trie.specs.Asking.{askOf, lookOf, findOf, rankOf, selectOf}
 use Rattle.trie.specs.Stepping.{planOf, carryOf, stepRecordOf}
 use Rattle.trie.specs.Values.{Value, yes′, no′, none, level, sums, ok}
 use Rattle.trie.specs.Calls.{State, state, openOf, startOf, stepOf, manned}
-use Rattle.history.specs.Order.{Placed, Answered}
+use Rattle.history.specs.Order.{Placed, placed, Answered}
 use Rattle.history.specs.Histories.{Call, start, step, Moment, history}
 use Rattle.history.specs.Theorem.{Holds}
 use Rattle.history.specs.Proof.{every-history-is-a-book}
@@ -125,3 +125,47 @@ pub record Stopped : Type 0 where
 pub stopped-holds : Stopped
 unfolding ℕ-discrete ones trailingZeros energyOf above climbFits allowed heightOf roomOf versionAt versionPut roomy boundsOf usedSound soundAt soundIn filled startRecordOf readOf swapOf joinOf refreshOf askOf lookOf findOf rankOf selectOf planOf carryOf stepRecordOf openOf startOf stepOf manned
 stopped-holds = record { a = (refl, refl); b = (refl, refl); c = (refl, refl); total = (refl, refl); order = refl }
+
+-- A, B and C, the starts 0, 1 and 2, insert into one cell and read it in the order C, B, A. B's swap succeeds: just behind it stand C and A, in the order of their reads
+abbrev losers : Moment
+losers =
+    history 2 3 (lent 2 9)
+    (start 0 (insert 0 10) ∷ start 1 (insert 0 20) ∷ start 2 (insert 0 30) ∷ step 2 ∷ step 1 ∷ step 0 ∷ steps 5 1)
+
+-- A inserts into cell 3, then B into cell 0, each up to its node below the root; A's refresh of the root brings both: left before right
+abbrev sides : Moment
+sides =
+    history 4 3 (lent 4 20)
+    (start 0 (insert 3 10) ∷ start 1 (insert 0 20) ∷ steps 6 0 ++ (steps 6 1 ++ steps 4 0))
+
+-- A inserts into cell 0 and B into cell 1, but B reaches the node above both first; A's refresh of the root brings both, in their order at that node
+abbrev turns : Moment
+turns =
+    history 4 3 (lent 4 20)
+    (start 0 (insert 0 10) ∷ start 1 (insert 1 20) ∷ steps 6 1 ++ steps 10 0)
+
+-- B finds cell 1 as A has made it, and is there behind A; C, who finds it unmarked and wants it so, was there before
+abbrev found : Moment
+found =
+    history 2 3 (lent 2 9)
+    (start 0 (insert 1 10) ∷ start 1 (insert 1 20) ∷ start 2 (Operation.Update (Update.Delete 1)) ∷ step 2 ∷ steps 2 0 ++ (step 1 ∷ steps 4 0))
+
+-- moments are numbers of accepted calls: a Total, a step that is refused, and another Total
+abbrev counted : Moment
+counted =
+    history 2 3 (lent 2 9)
+    (start 0 (Operation.Query Query.Total) ∷ step 0 ∷ step 0 ∷ start 0 (Operation.Query Query.Total) ∷ [])
+
+pub record Orders : Type 0 where
+  pub began : counted .memory .lives 0 .started ≡ 0
+  pub ended : counted .memory .lives 0 .answer ≡ some (record { moment = 1; value = sums 0 0 })
+  pub next : counted .memory .lives 1 .started ≡ 2
+  pub place : counted .memory .order ≡ placed 0 (Operation.Query Query.Total) 1 ∷ []
+  pub losers-order : ids (losers .memory .order) ≡ 1 ∷ 2 ∷ 0 ∷ []
+  pub sides-order : ids (sides .memory .order) ≡ 1 ∷ 0 ∷ []
+  pub turns-order : ids (turns .memory .order) ≡ 1 ∷ 0 ∷ []
+  pub found-order : ids (found .memory .order) ≡ 2 ∷ 0 ∷ 1 ∷ []
+
+pub orders-hold : Orders
+unfolding ℕ-discrete ones trailingZeros energyOf above climbFits allowed heightOf roomOf versionAt versionPut roomy boundsOf usedSound soundAt soundIn filled startRecordOf readOf swapOf joinOf refreshOf askOf lookOf findOf rankOf selectOf planOf carryOf stepRecordOf openOf startOf stepOf manned
+orders-hold = record { began = refl; ended = refl; next = refl; place = refl; losers-order = refl; sides-order = refl; turns-order = refl; found-order = refl }

@@ -21,3 +21,4 @@ pub mod PromiseLaws
 pub mod Runs
 pub mod Soundings
 pub mod Refusals
+pub mod Damaged

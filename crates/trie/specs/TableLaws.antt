@@ -144,3 +144,16 @@ roomy-versions n nodes vs e = leb-true _ _ (and-second (leb (2 * n) (length node
 pub roomy-same : (n : ℕ) (nodes nodes′ vs vs′ : List ℕ) → length nodes′ ≡ length nodes → length vs′ ≡ length vs → roomy n nodes′ vs′ ≡ roomy n nodes vs
 unfolding roomy
 roomy-same n nodes nodes′ vs vs′ p q = rw (p, room-same vs vs′ q)
+
+-- V in the page's numbers: a fifth of the length, or a million where that is less
+pub room-whole : (vs : List ℕ) → length vs / 5 ≤ 1000000 → roomOf vs ≡ length vs / 5
+unfolding roomOf
+room-whole vs l = ap (λ t. pick t (length vs / width) mostVersions) (le-leb (length vs / width) mostVersions l)
+
+pub room-cut : (vs : List ℕ) → 1000000 ≤ length vs / 5 → roomOf vs ≡ 1000000
+unfolding roomOf
+room-cut vs l = by (leb (length vs / width) mostVersions) refl
+  where
+    by : (t : Bool) → leb (length vs / width) mostVersions ≡ t → pick t (length vs / width) mostVersions ≡ 1000000
+    by true e = let k = leb-true (length vs / width) mostVersions e in omega arith
+    by false e = refl
