@@ -1,8 +1,13 @@
+mod Callee
+mod GivenUp
+mod Rows
+mod Lends
+mod Arrays
 pub mod Texts
-mod Boards
-mod Going
-mod Opens
+mod Called
+mod Taken
 pub mod Feeds
+mod Shorts
 mod Runs
 mod Outcomes
 pub mod Cuts

@@ -1,25 +1,22 @@
--- What a whole chunk comes to: the line that was begun ends in it or does not, and what was written stands at the start of the buffer.
+-- What a whole chunk comes to: the line that is begun at its end, and what was written at the start of the buffer.
 -- Assumes nothing.
 use mathlib.Core.Path.{_≡_, refl, sym, ap, _∙_}
 use mathlib.Core.Bool.{Bool, true, false}
 use mathlib.Core.List.{List, [], _∷_, _++_}
-use Prim.Native.Nat.{ℕ, _+_, _-_, _≤_, _<_}
-use native.Mathlib.Nat.{sub-zero}
+use Prim.Native.Nat.{ℕ, _*_, _-_, _≤_}
 use native.Mathlib.Omega.{arith}
 use borrow.Author.Tests.{eq-eqb, ne-eqb}
 use lib.Dec.{eqb, leb}
-use lib.ListN.{length, take, drop, take-append-drop}
-use lib.Seq.{length-take-le}
-use Rattle.grammar.specs.declared.Line.{Line}
+use lib.ListN.{length, take, drop, take-append-drop, length-drop}
+use lib.Seq.{length-take-le, take-all}
 use Rattle.trie.specs.Choice.{pick}
 use Rattle.lines.specs.declared.Begun.{Begun}
-use Rattle.lines.specs.Text.{Put}
+use Rattle.lines.specs.declared.Place.{Place}
 use Rattle.lines.specs.Watch.{Watch}
-use Rattle.lines.specs.Turns.{Answered, lineTurn}
-use Rattle.lines.specs.Chunks.{longest, Part, upto, over, lineAt, Listing, listing, byteOf, servedOf, zeros, partOf, begunOf, Outcome, outcome, serveOf, finishOf}
-use Rattle.lines.specs.Feeding.{grown, between, Ends, Closes}
-use Rattle.lines.proofs.Feeds.{line-answered, served-rest, put-drop}
-use Rattle.lines.proofs.Runs.{behind-on}
+use Rattle.lines.specs.Chunks.{longest, Part, upto, over, Listing, listing, byteOf, servedOf, zeros, partOf, begunOf, Outcome, outcome, serveOf, finishOf}
+use Rattle.lines.specs.Feeding.{grown, between, Ends, widest, before}
+use Rattle.lines.specs.Places.{Closes}
+use Rattle.lines.proofs.Feeds.{served-rest}
 
 abbrev at-end : Begun → Watch → List ℕ → ℕ → Outcome
 at-end kept s out filled = record { begun = kept; watch = s; out = out; filled = filled }
@@ -33,22 +30,16 @@ module _ (begun : Begun) (s₀ : Watch) (out₀ chunk : List ℕ) where
       let o : out ≡ take filled out ++ drop (length (take filled out)) out₀ = sym (take-append-drop filled out) ∙ ap (λ (l : List ℕ). take filled out ++ l) (d ∙ ap (λ (k : ℕ). drop k out₀) n) in
       (λ i. at-end (e i) s (o i) (n i)) ∙ ap (λ (l : Listing). outcome l out₀) q
 
-  same-bytes : (e : ℕ) → take e chunk ≡ between chunk 0 e
-  same-bytes e = ap (λ (n : ℕ). take n chunk) (sym (sub-zero e))
-
-  pub rest-all : (e : ℕ) (kept : Begun) → Ends chunk 0 e → e ≡ length chunk → kept ≡ begunOf (grown (partOf begun) (take e chunk)) → at-end kept s₀ out₀ 0 ≡ serveOf begun s₀ out₀ chunk
-  rest-all e kept h l q =
-      outcome-is (grown (partOf begun) (between chunk 0 e)) s₀ out₀ 0 kept (q ∙ ap (λ (x : List ℕ). begunOf (grown (partOf begun) x)) (same-bytes e)) (omega arith) refl
-      (served-rest chunk 0 e h (partOf begun) s₀ [] (omega arith))
-
-  pub closes-all : (e : ℕ) (a : Answered) (s : Watch) (out₁ out : List ℕ) (o filled : ℕ) (line : Line) (kept : Begun) → Ends chunk 0 e → e < length chunk
-      → line ≡ lineAt (grown (partOf begun) (take e chunk)) → a ≡ lineTurn line s₀ → Put (a .text) 0 out₀ out₁ o → Closes chunk (e + 1) (a .watch) out₁ o kept s out filled
-      → at-end kept s out filled ≡ serveOf begun s₀ out₀ chunk
-  closes-all e a s out₁ out o filled line kept h l el q p c =
-      let x : line ≡ lineAt (grown (partOf begun) (between chunk 0 e)) = el ∙ ap (λ (b : List ℕ). lineAt (grown (partOf begun) b)) (same-bytes e) in
-      outcome-is (c .part) s out filled kept (c .kept) (c .room)
-      (c .behind ∙ behind-on out₁ out₀ o filled (put-drop (a .text) out₀ out₁ out₀ 0 o (omega arith) p refl) (c .grows))
-      (c .same ∙ line-answered chunk 0 e h l (partOf begun) s₀ a out₀ out₁ 0 o (omega arith) (q ∙ ap (λ (y : Line). lineTurn y s₀) x) p)
+  -- the lines that end in the chunk are served, and the line behind them is kept
+  pub closes-all : (p : Place) (s : Watch) (out : List ℕ) (kept : Begun) → Closes begun chunk s₀ out₀ p s out → widest * length chunk ≤ length out
+      → kept ≡ begunOf (grown (before begun (p .from)) (drop (p .from) chunk)) → at-end kept s out (p .filled) ≡ serveOf begun s₀ out₀ chunk
+  closes-all p s out kept c k q =
+      let h = c .runs .ends in
+      let i = p .from in
+      let n : length (drop i chunk) ≤ p .end - i = omega (arith, length-drop i chunk, c .all) in
+      outcome-is (grown (before begun i) (between chunk i (p .end))) s out (p .filled) kept (q ∙ ap (λ (x : List ℕ). begunOf (grown (before begun i) x)) (sym (take-all (p .end - i) (drop i chunk) n)))
+      (omega (arith, c .runs .room, h .onward, h .within)) (c .runs .behind)
+      (served-rest chunk i (p .end) h (before begun i) s (take (p .filled) out) (c .all) ∙ c .runs .same)
 
 -- ---- the input has ended
 

@@ -1,8 +1,8 @@
 pub mod Text
 pub mod Watch
 pub mod Turns
-pub mod Sums
-pub mod Records
+pub mod Calling
 pub mod Chunks
 pub mod Feeding
+pub mod Places
 pub mod Decided

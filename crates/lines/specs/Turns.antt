@@ -8,6 +8,7 @@ use Rattle.decibel.specs.Told.{Told, refused, gives}
 use Rattle.grammar.specs.declared.Command.{Command}
 use Rattle.grammar.specs.declared.Line.{Line}
 use Rattle.trie.specs.declared.Operation.{Operation}
+use Rattle.trie.specs.declared.Worker.{Worker}
 use Rattle.trie.specs.Choice.{pick}
 use Rattle.trie.specs.Values.{Ok, Course}
 use Rattle.trie.specs.Calls.{After, openOf, startOf, stepOf}
@@ -63,6 +64,6 @@ lineTurn (Line.Is (Command.Start i o)) s = startLine i o s
 lineTurn (Line.Is (Command.Open n w v)) s = openLine n w v s
 lineTurn Line.Not s = refuses 10 s
 
--- a turn of the code, with the tables after it
-abbrev pub turned : Turn → List ℕ → List ℕ → Answered
-turned t nodes versions = answered (replyText (t .reply)) (watch (t .history) nodes versions (t .board))
+-- a turn of the code, with the tables and the board after it
+abbrev pub turned : Turn → List ℕ → List ℕ → List Worker → Answered
+turned t nodes versions board = answered (replyText (t .reply)) (watch (t .history) nodes versions board)

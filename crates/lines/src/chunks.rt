@@ -1,23 +1,21 @@
 // A chunk of the input: its lines are served where they lie, and the line that is begun at its end is kept.
-// Lines of a history that is under way are served in a loop that holds the board, so that it is not copied line by line.
+// The lines are served in a loop to which the board is lent, so that it is not copied line by line.
 ghost use mathlib.Core.Path.{_≡_};
-ghost use mathlib.Core.Bool.{true};
-ghost use Prim.Native.Nat.{_+_, _*_, _≤_};
-ghost use lib.ListN.{length, take};
-ghost use Rattle.lines.specs.Watch.{watch, opened, Roomy};
-ghost use Rattle.lines.specs.Chunks.{Outcome, zeros, upto, partOf, begunOf, lineAt, serveOf, finishOf};
-ghost use Rattle.lines.specs.Feeding.{Ends, Runs, Closes, grown, widest};
+ghost use Prim.Native.Nat.{_+_, _*_, _≤_, _<_};
+ghost use lib.Dec.{ltb};
+ghost use lib.ListN.{length, take, drop};
+ghost use Rattle.lines.specs.Text.{replyText};
+ghost use Rattle.lines.specs.Watch.{watch, Roomy};
+ghost use Rattle.lines.specs.Chunks.{Outcome, zeros, partOf, begunOf, lineAt, serveOf, finishOf};
+ghost use Rattle.lines.specs.Feeding.{Ends, grown, widest, before};
+ghost use Rattle.lines.specs.Places.{isStep, Found, Placed, First, Goes, Closes};
 use crate::Begun;
 use crate::History;
-use crate::Ran;
+use crate::Place;
 use crate::Served;
-use crate::board::is_open;
+use crate::Turn;
 use crate::text::put;
-use crate::text::put_accepted;
-use crate::text::put_progress;
 use crate::text::put_reply;
-use crate::turns::start_lent;
-use crate::turns::step_lent;
 use crate::turns::take_turn;
 use grammar::Command;
 use grammar::Line;
@@ -83,164 +81,179 @@ fn begun_line(bytes: [u8; 40], held: usize) -> Line
     grammar::parse(&bytes[..held])
 }
 
-// Serves steps and starts of a history that is under way, up to a line that is neither or names no worker.
-fn run(
-    chunk: &[u8],
-    from: usize,
-    h: History,
-    board: [Worker; 16],
-    nodes: &mut [u64],
-    versions: &mut [u64],
-    out: &mut [u8],
-    at: usize,
-) -> Ran
-    requires { ⌜ opened h ≡ true ⌝ }
-    requires { ⌜ Roomy (now nodes) (now versions) ⌝ }
-    requires { ⌜ (from ≤ length (now chunk)) × (at ≤ widest * from) × (widest * length (now chunk) ≤ length (now out)) ⌝ }
-    ensures { λ r. ⌜ Runs (now (chunk .entry)) from (watch h (now (nodes .entry)) (now (versions .entry)) board) (now (out .entry)) at (r .next) (watch h (now (nodes .exit)) (now (versions .exit)) (r .board)) (now (out .exit)) (r .filled) ⌝ }
+enum Short {
+    Not,
+    Step(u64, usize),
+}
+
+fn wide(x: u8) -> u64
+    ensures { λ r. ⌜ r ≡ x ⌝ }
 {
-    let mut b = board;
-    let mut i = from;
-    let mut o = at;
-    let workers = h.workers;
-    while i < chunk.len() {
-        let e = line_end(chunk, i);
-        if e == chunk.len() {
-            return Ran {
-                next: i,
-                board: b,
-                filled: o,
-            };
-        }
-        let Line::Is(command) = grammar::parse(&chunk[i..e]) else {
-            return Ran {
-                next: i,
-                board: b,
-                filled: o,
-            };
-        };
-        match command {
-            Command::Step(k) => {
-                if workers <= k {
-                    return Ran {
-                        next: i,
-                        board: b,
-                        filled: o,
-                    };
-                }
-                let p = k as usize;
-                let was = b[p];
-                let moved = step_lent(h, was, nodes, versions);
-                let progress = moved.progress;
-                let next = moved.worker;
-                b[p] = next;
-                o = put_progress(progress, out, o);
-                i = e + 1;
-            }
-            Command::Start(k, operation) => {
-                if workers <= k {
-                    return Ran {
-                        next: i,
-                        board: b,
-                        filled: o,
-                    };
-                }
-                let p = k as usize;
-                let was = b[p];
-                let begun = start_lent(h, operation, b, was, nodes, versions);
-                let accepted = begun.accepted;
-                let next = begun.worker;
-                b[p] = next;
-                o = put_accepted(accepted, out, o);
-                i = e + 1;
-            }
-            Command::Open(_, _, _) => {
-                return Ran {
-                    next: i,
-                    board: b,
-                    filled: o,
-                };
-            }
-        }
+    x as u64
+}
+
+// Whether the word of a step stands at i.
+fn is_step(chunk: &[u8], i: usize) -> bool
+    requires { ⌜ i + 8 ≤ length (now chunk) ⌝ }
+    ensures { λ r. ⌜ r ≡ isStep (now (chunk .entry)) i ⌝ }
+{
+    (((chunk[i] == b's') & (chunk[i + 1] == b't'))
+        & ((chunk[i + 2] == b'e') & (chunk[i + 3] == b'p')))
+        & (chunk[i + 4] == b' ')
+}
+
+// A step with a number of one or two digits is found without a search for the line's end: most lines of a listing are such.
+fn short_step(chunk: &[u8], i: usize) -> Short
+    requires { ⌜ i ≤ length (now chunk) ⌝ }
+    ensures { λ r. ⌜ Found (now (chunk .entry)) i r ⌝ }
+{
+    if chunk.len() - i < 8 {
+        return Short::Not;
     }
-    Ran {
-        next: i,
-        board: b,
-        filled: o,
+    if !is_step(chunk, i) {
+        return Short::Not;
+    }
+    let d = wide(chunk[i + 5]);
+    if d < 48 {
+        return Short::Not;
+    }
+    if 57 < d {
+        return Short::Not;
+    }
+    if chunk[i + 6] == 10 {
+        return Short::Step(d - 48, i + 6);
+    }
+    let f = wide(chunk[i + 6]);
+    if f < 48 {
+        return Short::Not;
+    }
+    if 57 < f {
+        return Short::Not;
+    }
+    if chunk[i + 7] == 10 {
+        return Short::Step(10 * (d - 48) + (f - 48), i + 7);
+    }
+    Short::Not
+}
+
+// The line that begins at `from`.
+fn place_at(chunk: &[u8], from: usize, h: History, filled: usize) -> Place
+    requires { ⌜ from ≤ length (now chunk) ⌝ }
+    ensures { λ r. ⌜ Placed (now (chunk .entry)) from h filled r ⌝ }
+{
+    match short_step(chunk, from) {
+        Short::Step(k, e) => Place {
+            line: Line::Is(Command::Step(k)),
+            from: from,
+            end: e,
+            history: h,
+            filled: filled,
+        },
+        Short::Not => {
+            let e = line_end(chunk, from);
+            Place {
+                line: grammar::parse(&chunk[from..e]),
+                from: from,
+                end: e,
+                history: h,
+                filled: filled,
+            }
+        }
     }
 }
 
-// The same, and nothing where no history is under way.
-fn run_open(
-    chunk: &[u8],
-    from: usize,
-    h: History,
-    board: [Worker; 16],
-    nodes: &mut [u64],
-    versions: &mut [u64],
-    out: &mut [u8],
-    at: usize,
-) -> Ran
-    requires { ⌜ Roomy (now nodes) (now versions) ⌝ }
-    requires { ⌜ (from ≤ length (now chunk)) × (at ≤ widest * from) × (widest * length (now chunk) ≤ length (now out)) ⌝ }
-    ensures { λ r. ⌜ Runs (now (chunk .entry)) from (watch h (now (nodes .entry)) (now (versions .entry)) board) (now (out .entry)) at (r .next) (watch h (now (nodes .exit)) (now (versions .exit)) (r .board)) (now (out .exit)) (r .filled) ⌝ }
+// The first line of a chunk, of which some bytes may have come before.
+fn first_place(begun: Begun, h: History, chunk: &[u8]) -> Place
+    ensures { λ r. ⌜ First begun h (now (chunk .entry)) r ⌝ }
 {
-    if is_open(h) {
-        return run(chunk, from, h, board, nodes, versions, out, at);
-    }
-    Ran {
-        next: from,
-        board: board,
-        filled: at,
+    let e = line_end(chunk, 0);
+    let old = begun.bytes;
+    let held = begun.held;
+    let line = keep(old, held, &chunk[..e]);
+    let bytes = line.bytes;
+    let length = line.held;
+    Place {
+        line: begun_line(bytes, length),
+        from: 0,
+        end: e,
+        history: h,
+        filled: 0,
     }
 }
 
-// Serves the lines from `from` on, any of them, and keeps the line that is begun at the chunk's end.
+fn is_ended(p: Place, length: usize) -> bool
+    ensures { λ r. ⌜ r ≡ ltb (p .end) length ⌝ }
+{
+    p.end < length
+}
+
+fn next_line(p: Place) -> Line
+    ensures { λ r. ⌜ r ≡ p .line ⌝ }
+{
+    p.line
+}
+
+fn history_at(p: Place) -> History
+    ensures { λ r. ⌜ r ≡ p .history ⌝ }
+{
+    p.history
+}
+
+// The answer is written, and the next line read.
+fn go_on(turn: Turn, p: Place, chunk: &[u8], out: &mut [u8]) -> Place
+    requires { ⌜ (p .end < length (now chunk)) × (p .filled + widest ≤ length (now out)) ⌝ }
+    ensures { λ r. ⌜ Goes turn p (now (chunk .entry)) (now (out .entry)) (now (out .exit)) r ⌝ }
+{
+    let h = turn.history;
+    let reply = turn.reply;
+    let filled = put_reply(reply, out, p.filled);
+    place_at(chunk, p.end + 1, h, filled)
+}
+
+// Serves the lines that end in the chunk.
 fn serve_lines(
     chunk: &[u8],
-    from: usize,
+    begun: Begun,
     history: History,
-    board: [Worker; 16],
     nodes: &mut [u64],
     versions: &mut [u64],
+    board: &mut [Worker],
     out: &mut [u8],
-    at: usize,
-) -> Served
-    requires { ⌜ Roomy (now nodes) (now versions) ⌝ }
-    requires { ⌜ (from ≤ length (now chunk)) × (at ≤ widest * from) × (widest * length (now chunk) ≤ length (now out)) ⌝ }
-    ensures { λ r. ⌜ Closes (now (chunk .entry)) from (watch history (now (nodes .entry)) (now (versions .entry)) board) (now (out .entry)) at (r .begun) (watch (r .history) (now (nodes .exit)) (now (versions .exit)) (r .board)) (now (out .exit)) (r .filled) ⌝ }
+) -> Place
+    requires { ⌜ Roomy (now nodes) (now versions) × (widest * length (now chunk) ≤ length (now out)) ⌝ }
+    ensures { λ r. ⌜ Closes begun (now (chunk .entry)) (watch history (now (nodes .entry)) (now (versions .entry)) (now (board .entry))) (now (out .entry)) r (watch (r .history) (now (nodes .exit)) (now (versions .exit)) (now (board .exit))) (now (out .exit)) ⌝ }
 {
-    let mut h = history;
-    let mut b = board;
-    let mut o = at;
-    let mut i = from;
-    while i < chunk.len() {
-        let ran = run_open(chunk, i, h, b, nodes, versions, out, o);
-        let after = ran.board;
-        let filled = ran.filled;
-        let next = ran.next;
-        let e = line_end(chunk, next);
-        if e == chunk.len() {
-            let kept = keep([0u8; 40], 0, &chunk[next..e]);
-            return Served {
-                begun: kept,
-                history: h,
-                board: after,
-                filled: filled,
-            };
-        }
-        let turn = take_turn(grammar::parse(&chunk[next..e]), h, after, nodes, versions);
-        h = turn.history;
-        b = turn.board;
-        let reply = turn.reply;
-        o = put_reply(reply, out, filled);
-        i = e + 1;
+    let mut p = first_place(begun, history, chunk);
+    while is_ended(p, chunk.len()) {
+        let turn = take_turn(next_line(p), history_at(p), nodes, versions, board);
+        p = go_on(turn, p, chunk, out);
     }
+    p
+}
+
+// What is kept of the chunk when its lines are served.
+fn close(p: Place, begun: Begun, chunk: &[u8]) -> Begun
+    requires { ⌜ p .from ≤ length (now chunk) ⌝ }
+    ensures { λ r. ⌜ r ≡ begunOf (grown (before begun (p .from)) (drop (p .from) (now (chunk .entry)))) ⌝ }
+{
+    let old = begun.bytes;
+    let held = begun.held;
+    let from = p.from;
+    if from == 0 {
+        return keep(old, held, chunk);
+    }
+    keep([0u8; 40], 0, &chunk[from..])
+}
+
+fn served(begun: Begun, p: Place, board: [Worker; 16]) -> Served
+    ensures { λ r. ⌜ r ≡ record { begun = begun; history = p .history; board = board; filled = p .filled } ⌝ }
+{
+    let h = p.history;
     Served {
-        begun: blank(),
+        begun: begun,
         history: h,
-        board: b,
-        filled: o,
+        board: board,
+        filled: p.filled,
     }
 }
 
@@ -253,30 +266,12 @@ fn serve_bytes(
     versions: &mut [u64],
     out: &mut [u8],
 ) -> Served
-    requires { ⌜ Roomy (now nodes) (now versions) ⌝ }
-    requires { ⌜ widest * length (now chunk) ≤ length (now out) ⌝ }
+    requires { ⌜ Roomy (now nodes) (now versions) × (widest * length (now chunk) ≤ length (now out)) ⌝ }
     ensures { λ r. ⌜ _≡_ {A = Outcome} (record { begun = r .begun; watch = watch (r .history) (now (nodes .exit)) (now (versions .exit)) (r .board); out = now (out .exit); filled = r .filled }) (serveOf begun (watch history (now (nodes .entry)) (now (versions .entry)) board) (now (out .entry)) (now (chunk .entry))) ⌝ }
 {
-    let e = line_end(chunk, 0);
-    let old = begun.bytes;
-    let held = begun.held;
-    let line = keep(old, held, &chunk[..e]);
-    if e == chunk.len() {
-        return Served {
-            begun: line,
-            history: history,
-            board: board,
-            filled: 0,
-        };
-    }
-    let bytes = line.bytes;
-    let length = line.held;
-    let turn = take_turn(begun_line(bytes, length), history, board, nodes, versions);
-    let after = turn.history;
-    let b = turn.board;
-    let reply = turn.reply;
-    let o = put_reply(reply, out, 0);
-    serve_lines(chunk, e + 1, after, b, nodes, versions, out, o)
+    let mut b = board;
+    let p = serve_lines(chunk, begun, history, nodes, versions, &mut b, out);
+    served(close(p, begun, chunk), p, b)
 }
 
 // Serves the first n bytes of a chunk, of which there are at most 4,096.

@@ -1,15 +1,17 @@
 // Chunks of a listing in, the text of the answers out: all that the listing program does but read and write.
 // The definitions of specs/ follow document 01, "The listing program", and the contracts are equations with them.
-mod board;
 mod chunks;
+mod histories;
 mod text;
 mod turns;
 
-pub use board::fresh;
 pub use chunks::blank;
 pub use chunks::finish;
 pub use chunks::serve;
+use grammar::Line;
+pub use histories::fresh;
 use trie::Accepted;
+use trie::Operation;
 use trie::Progress;
 use trie::Worker;
 
@@ -32,23 +34,26 @@ pub enum Reply {
     Progress(Progress),
 }
 
-// A record after a step, and what the step tells.
-pub struct Paced {
-    pub progress: Progress,
-    pub worker: Worker,
+// The call that a line makes: 1 a step, 2 a start, 3 an open; or 0 and the number of its refusal.
+pub struct Call {
+    pub kind: u64,
+    pub number: u64,
+    pub words: usize,
+    pub operation: Operation,
 }
 
-// A line's answer, with the history and the board after it.
+// A line's answer, with the history after it.
 pub struct Turn {
     pub reply: Reply,
     pub history: History,
-    pub board: [Worker; 16],
 }
 
-// How far the lines of a chunk are served, the board after them, and where the text of their answers ends.
-pub struct Ran {
-    pub next: usize,
-    pub board: [Worker; 16],
+// The line that is next, where it begins and ends, the history before it, and where the text of the answers ends.
+pub struct Place {
+    pub line: Line,
+    pub from: usize,
+    pub end: usize,
+    pub history: History,
     pub filled: usize,
 }
 

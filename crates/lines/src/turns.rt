@@ -1,130 +1,21 @@
-// One line served: a command that is carried out, or refusal 10.
-// The tables are lent on, of the version table exactly the words of V versions.
+// One line served: which call it makes, the call, and what it tells.
+// The board and the tables are lent on; of the version table exactly the words of V versions.
 ghost use mathlib.Core.Path.{_≡_};
-ghost use mathlib.Core.Bool.{true};
-ghost use Rattle.trie.specs.Choice.{pick};
-ghost use Rattle.trie.specs.Size.{allowed};
-ghost use Rattle.trie.specs.Values.{acceptedOf, progressOf};
-ghost use Rattle.trie.specs.Starting.{Started, startRecordOf};
-ghost use Rattle.trie.specs.Stepping.{Stepped};
-ghost use Rattle.lines.specs.Watch.{watch, opened, Roomy};
-ghost use Rattle.lines.specs.Turns.{Answered, turned, refuses, openLine, startLine, stepLine, lineTurn};
-ghost use Rattle.lines.specs.Records.{stepLent, startLent, wordsOf};
+ghost use Rattle.lines.specs.Watch.{watch, Roomy};
+ghost use Rattle.lines.specs.Turns.{turned, lineTurn};
+ghost use Rattle.lines.specs.Calling.{wordsOf, noOperation, call, refusal, callOf, crewOf, askedBy, keptBy};
+use crate::Call;
 use crate::History;
-use crate::Paced;
 use crate::Reply;
 use crate::Turn;
-use crate::board::is_open;
-use crate::board::promised;
-use crate::board::rest;
+use crate::histories::is_open;
 use grammar::Command;
 use grammar::Line;
 use trie::Accepted;
-use trie::Begun;
 use trie::Operation;
+use trie::Progress;
+use trie::Query;
 use trie::Worker;
-
-fn refuse(number: u64, history: History, board: [Worker; 16]) -> Turn
-    ensures { λ r. ⌜ r ≡ record { reply = Reply.Accepted (Accepted.Refused number); history = history; board = board } ⌝ }
-{
-    Turn {
-        reply: Reply::Accepted(Accepted::Refused(number)),
-        history: history,
-        board: board,
-    }
-}
-
-// Steps one record of a history that is under way.
-pub(crate) fn step_lent(h: History, was: Worker, nodes: &mut [u64], versions: &mut [u64]) -> Paced
-    requires { ⌜ Roomy (now nodes) (now versions) ⌝ }
-    requires { ⌜ opened h ≡ true ⌝ }
-    ensures { λ r. ⌜ _≡_ {A = Stepped} (record { told = progressOf (r .progress); worker = r .worker; nodes = now (nodes .exit); versions = now (versions .exit) }) (stepLent h was (now (nodes .entry)) (now (versions .entry))) ⌝ }
-{
-    let n = h.cells;
-    let v = h.versions;
-    let lent = (5 * v) as usize;
-    let moved = steps::step_record(n, was, nodes, &mut versions[..lent]);
-    Paced {
-        progress: steps::progress_after(moved),
-        worker: steps::worker_after(moved, was),
-    }
-}
-
-// Starts an operation in one record of a history that is under way.
-pub(crate) fn start_lent(
-    h: History,
-    o: Operation,
-    board: [Worker; 16],
-    was: Worker,
-    nodes: &[u64],
-    versions: &[u64],
-) -> Begun
-    requires { ⌜ Roomy (now nodes) (now versions) ⌝ }
-    requires { ⌜ opened h ≡ true ⌝ }
-    ensures { λ r. ⌜ _≡_ {A = Started} (record { told = acceptedOf (r .accepted); worker = r .worker }) (startLent h o board was (now (nodes .entry)) (now (versions .entry))) ⌝ }
-{
-    let n = h.cells;
-    let v = h.versions;
-    let workers = h.workers;
-    let lent = (5 * v) as usize;
-    let sum = promised(tables::height(n) + 1, workers as usize, board);
-    steps::start_record(n, o, sum, was, nodes, &versions[..lent])
-}
-
-fn step(i: u64, h: History, board: [Worker; 16], nodes: &mut [u64], versions: &mut [u64]) -> Turn
-    requires { ⌜ Roomy (now nodes) (now versions) ⌝ }
-    ensures { λ r. ⌜ turned r (now (nodes .exit)) (now (versions .exit)) ≡ stepLine i (watch h (now (nodes .entry)) (now (versions .entry)) board) ⌝ }
-{
-    if !is_open(h) {
-        return refuse(10, h, board);
-    }
-    if h.workers <= i {
-        return refuse(4, h, board);
-    }
-    let mut b = board;
-    let at = i as usize;
-    let was = b[at];
-    let moved = step_lent(h, was, nodes, versions);
-    let progress = moved.progress;
-    let next = moved.worker;
-    b[at] = next;
-    Turn {
-        reply: Reply::Progress(progress),
-        history: h,
-        board: b,
-    }
-}
-
-fn start(
-    i: u64,
-    o: Operation,
-    h: History,
-    board: [Worker; 16],
-    nodes: &[u64],
-    versions: &[u64],
-) -> Turn
-    requires { ⌜ Roomy (now nodes) (now versions) ⌝ }
-    ensures { λ r. ⌜ turned r (now (nodes .entry)) (now (versions .entry)) ≡ startLine i o (watch h (now (nodes .entry)) (now (versions .entry)) board) ⌝ }
-{
-    if !is_open(h) {
-        return refuse(10, h, board);
-    }
-    if h.workers <= i {
-        return refuse(4, h, board);
-    }
-    let mut b = board;
-    let at = i as usize;
-    let was = b[at];
-    let begun = start_lent(h, o, board, was, nodes, versions);
-    let accepted = begun.accepted;
-    let next = begun.worker;
-    b[at] = next;
-    Turn {
-        reply: Reply::Accepted(accepted),
-        history: h,
-        board: b,
-    }
-}
 
 // The words that are lent to an open; none where V is more than there are here, so that it is refused with 3.
 fn words(v: u64) -> usize
@@ -133,63 +24,204 @@ fn words(v: u64) -> usize
     if v <= 1000 { (5 * v) as usize } else { 0 }
 }
 
-// What an open gives where there are not 1 to 16 workers.
-fn unmanned(n: u64) -> u64
-    ensures { λ r. ⌜ r ≡ pick (allowed n) 2 1 ⌝ }
+// Where a line asks for no operation.
+fn no_operation() -> Operation
+    ensures { λ r. ⌜ r ≡ noOperation ⌝ }
 {
-    if tables::is_allowed(n) { 2 } else { 1 }
+    Operation::Query(Query::Total)
 }
 
-fn open(
-    n: u64,
-    w: u64,
-    v: u64,
-    h: History,
-    board: [Worker; 16],
-    nodes: &mut [u64],
-    versions: &mut [u64],
-) -> Turn
-    requires { ⌜ Roomy (now nodes) (now versions) ⌝ }
-    ensures { λ r. ⌜ turned r (now (nodes .exit)) (now (versions .exit)) ≡ openLine n w v (watch h (now (nodes .entry)) (now (versions .entry)) board) ⌝ }
+fn call_for(kind: u64, number: u64, words: usize, operation: Operation) -> Call
+    ensures { λ r. ⌜ r ≡ call kind number words operation ⌝ }
 {
-    if 16 < n {
-        return refuse(1, h, board);
+    Call {
+        kind: kind,
+        number: number,
+        words: words,
+        operation: operation,
     }
-    let manned = (1 <= w) & (w <= 16);
-    if !manned {
-        return refuse(unmanned(n), h, board);
+}
+
+fn refused(number: u64) -> Call
+    ensures { λ r. ⌜ r ≡ refusal number ⌝ }
+{
+    call_for(0, number, 0, no_operation())
+}
+
+// The call that a line makes, or its refusal: 10 for none, 10 before the first accepted open, 1 for more than 16 cells.
+fn call_of(line: Line, h: History) -> Call
+    ensures { λ r. ⌜ r ≡ callOf line h ⌝ }
+{
+    let Line::Is(command) = line else {
+        return refused(10);
+    };
+    let lent = words(h.versions);
+    match command {
+        Command::Step(i) => {
+            if is_open(h) {
+                call_for(1, i, lent, no_operation())
+            } else {
+                refused(10)
+            }
+        }
+        Command::Start(i, o) => {
+            if is_open(h) {
+                call_for(2, i, lent, o)
+            } else {
+                refused(10)
+            }
+        }
+        Command::Open(n, _, v) => {
+            if n <= 16 {
+                call_for(3, n, words(v), no_operation())
+            } else {
+                refused(1)
+            }
+        }
     }
-    let lent = words(v);
-    match steps::open_tables(n, nodes, &mut versions[..lent]) {
-        Accepted::Refused(number) => refuse(number, h, board),
-        Accepted::Ok => Turn {
-            reply: Reply::Accepted(Accepted::Ok),
-            history: History {
-                cells: n,
-                workers: w,
-                versions: v,
-            },
-            board: rest(w as usize, board),
+}
+
+fn progress_turn(progress: Progress, h: History) -> Turn
+    ensures { λ r. ⌜ r ≡ record { reply = Reply.Progress progress; history = h } ⌝ }
+{
+    Turn {
+        reply: Reply::Progress(progress),
+        history: h,
+    }
+}
+
+fn accepted_turn(accepted: Accepted, h: History) -> Turn
+    ensures { λ r. ⌜ r ≡ record { reply = Reply.Accepted accepted; history = h } ⌝ }
+{
+    Turn {
+        reply: Reply::Accepted(accepted),
+        history: h,
+    }
+}
+
+fn refused_turn(number: u64, h: History) -> Turn
+    ensures { λ r. ⌜ r ≡ record { reply = Reply.Accepted (Accepted.Refused number); history = h } ⌝ }
+{
+    Turn {
+        reply: Reply::Accepted(Accepted::Refused(number)),
+        history: h,
+    }
+}
+
+// The N, W and V that an open asks for.
+fn asked_history(line: Line, h: History) -> History
+    ensures { λ r. ⌜ r ≡ askedBy line h ⌝ }
+{
+    let Line::Is(command) = line else {
+        return h;
+    };
+    match command {
+        Command::Step(_) => h,
+        Command::Start(_, _) => h,
+        Command::Open(n, w, v) => History {
+            cells: n,
+            workers: w,
+            versions: v,
         },
     }
 }
 
+// N, W and V are kept only where the open is accepted.
+fn opened_turn(accepted: Accepted, line: Line, h: History) -> Turn
+    ensures { λ r. ⌜ r ≡ record { reply = Reply.Accepted accepted; history = keptBy accepted line h } ⌝ }
+{
+    match accepted {
+        Accepted::Refused(_) => accepted_turn(accepted, h),
+        Accepted::Ok => accepted_turn(accepted, asked_history(line, h)),
+    }
+}
+
+// The W that an open asks for.
+fn crew(line: Line) -> u64
+    ensures { λ r. ⌜ r ≡ crewOf line ⌝ }
+{
+    let Line::Is(command) = line else {
+        return 0;
+    };
+    match command {
+        Command::Step(_) => 0,
+        Command::Start(_, _) => 0,
+        Command::Open(_, w, _) => w,
+    }
+}
+
+fn kind_of(call: Call) -> u64
+    ensures { λ r. ⌜ r ≡ call .kind ⌝ }
+{
+    call.kind
+}
+
+fn number_of(call: Call) -> u64
+    ensures { λ r. ⌜ r ≡ call .number ⌝ }
+{
+    call.number
+}
+
+fn words_of(call: Call) -> usize
+    ensures { λ r. ⌜ r ≡ call .words ⌝ }
+{
+    call.words
+}
+
+fn operation_of(call: Call) -> Operation
+    ensures { λ r. ⌜ r ≡ call .operation ⌝ }
+{
+    call.operation
+}
+
+fn cells_of(h: History) -> u64
+    ensures { λ r. ⌜ r ≡ h .cells ⌝ }
+{
+    h.cells
+}
+
+fn workers_of(h: History) -> u64
+    ensures { λ r. ⌜ r ≡ h .workers ⌝ }
+{
+    h.workers
+}
+
+// Carries out what a line asks for.
 pub(crate) fn take_turn(
     line: Line,
     h: History,
-    board: [Worker; 16],
     nodes: &mut [u64],
     versions: &mut [u64],
+    board: &mut [Worker],
 ) -> Turn
     requires { ⌜ Roomy (now nodes) (now versions) ⌝ }
-    ensures { λ r. ⌜ turned r (now (nodes .exit)) (now (versions .exit)) ≡ lineTurn line (watch h (now (nodes .entry)) (now (versions .entry)) board) ⌝ }
+    ensures { λ r. ⌜ turned r (now (nodes .exit)) (now (versions .exit)) (now (board .exit)) ≡ lineTurn line (watch h (now (nodes .entry)) (now (versions .entry)) (now (board .entry))) ⌝ }
 {
-    let Line::Is(command) = line else {
-        return refuse(10, h, board);
-    };
-    match command {
-        Command::Step(i) => step(i, h, board, nodes, versions),
-        Command::Start(i, o) => start(i, o, h, board, nodes, versions),
-        Command::Open(n, w, v) => open(n, w, v, h, board, nodes, versions),
+    let call = call_of(line, h);
+    let kind = kind_of(call);
+    let number = number_of(call);
+    let lent = words_of(call);
+    let n = cells_of(h);
+    let w = workers_of(h);
+    if kind == 1 {
+        return progress_turn(
+            board::step(n, w, number, nodes, &mut versions[..lent], board),
+            h,
+        );
     }
+    if kind == 2 {
+        let operation = operation_of(call);
+        return accepted_turn(
+            board::start(n, w, number, operation, nodes, &versions[..lent], board),
+            h,
+        );
+    }
+    if kind == 3 {
+        return opened_turn(
+            board::open(number, crew(line), nodes, &mut versions[..lent], board),
+            line,
+            h,
+        );
+    }
+    refused_turn(number, h)
 }

@@ -1,4 +1,4 @@
--- `lines::board::is_open` meets its contract.
+-- `lines::histories::is_open` meets its contract.
 -- Assumes nothing.
 use Rattle.trie.specs.SizeLaws.{sized}
 use mathlib.Core.Path.{sym, _∙_}
@@ -6,8 +6,8 @@ use native.Mathlib.Omega.{arith}
 use borrow.Author.Tests.{not-true, not-false, lt-leb, le-leb}
 use Rattle.lines.specs.Watch.{opened}
 use borrow.Author.Needs.{needs}
-use Rattle.lines.proofs.board.is_open.Statement.{statement}
-use Rattle.lines.proofs.board.is_open.Tie as tie
+use Rattle.lines.proofs.histories.is_open.Statement.{statement}
+use Rattle.lines.proofs.histories.is_open.Tie as tie
 
 is-allowed-requires : tie.Need-is-allowed-requires
 is-allowed-requires c κs = search needs
