@@ -1,9 +1,16 @@
--- What the walks of several functions use.
--- The first five say nothing of this crate, and can be copied as they stand.
+-- What the walks of several functions use, and the laws by which they end.
+-- The first eight say nothing of this crate, and can be copied as they stand.
 pub mod Callee
 pub mod Arms
+pub mod Variants
 pub mod GivenUp
 pub mod Shared
+pub mod Lends
+pub mod Elements
 pub mod Arrays
 pub mod Elem
 pub mod Moving
+pub mod Tests
+pub mod Plans
+pub mod Carries
+pub mod Steps

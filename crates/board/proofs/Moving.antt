@@ -1,4 +1,4 @@
--- What a step of a record comes to, from what the record moved to: the walks of `step_in_place` and `step` end by these laws.
+-- What a step of a record comes to, from what the record moved to: the walk of `step_in_place` ends by these laws.
 -- Assumes nothing.
 use mathlib.Core.Path.{_≡_, refl}
 use mathlib.Core.Bool.{not}

@@ -1,4 +1,5 @@
 pub mod Judging
+pub mod Planning
 pub mod Promising
 pub mod Opening
 pub mod Rows

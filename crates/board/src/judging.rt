@@ -1,9 +1,10 @@
-// The refusals that need no record: 1, 2, 3 and 4, told from N, W, the worker's number and the lengths of what is lent.
-// Where the worker is one of the board's the answer is 0, and the call on its record gives 1 and 3 itself.
+// The refusals of a call before anything is planned: 1, 2, 3 and 4 from N, W, the worker's number and the lengths of what is lent;
+// and those of a step that its record decides with N and the tables. Where there is none the answer is 0.
 ghost use mathlib.Core.Path.{_≡_};
 ghost use Prim.Native.Nat.{_≤_};
 ghost use Rattle.trie.specs.Size.{mostCells};
-ghost use Rattle.board.specs.Judging.{mannedBy, roomBy, roomyBy, absentOf, judgeOf};
+ghost use Rattle.board.specs.Judging.{mannedBy, roomBy, roomyBy, absentOf, judgeOf, judgeRecordOf};
+use trie::Worker;
 
 pub(crate) fn is_manned(w: u64, seats: usize) -> bool
     ensures { λ r. ⌜ r ≡ mannedBy w seats ⌝ }
@@ -47,4 +48,17 @@ pub(crate) fn judge(n: u64, w: u64, i: u64, nodes: usize, versions: usize, seats
         return 0;
     }
     judge_absent(n, manned, nodes, versions)
+}
+
+// The refusals of a step that its record, N and the tables' lengths decide: 1, 3 and 6, or 0 for none.
+pub(crate) fn judge_record(n: u64, w: Worker, nodes: &[u64], versions: &[u64]) -> u64
+    ensures { λ r. ⌜ r ≡ judgeRecordOf n w (now (nodes .entry)) (now (versions .entry)) ⌝ }
+{
+    if !tables::is_allowed(n) {
+        return 1;
+    }
+    if !tables::is_roomy(n, nodes, versions) {
+        return 3;
+    }
+    if tables::is_busy(w) { 0 } else { 6 }
 }

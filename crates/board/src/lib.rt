@@ -1,7 +1,9 @@
 // The public calls of document 01: open, start and step, on lent tables and a lent row of workers.
-// A call picks one worker's record, has it stepped by value, and stores it; no other record is written.
+// A start or a step writes one worker's record, where it lies, and no other; an open rests the workers 0 to W - 1.
+mod carrying;
 mod judging;
 mod opening;
+mod planning;
 mod promising;
 mod rows;
 mod starting;

@@ -166,8 +166,10 @@ fn read_right(
     let left = 2 * c.node.0;
     let leaves = b.cells <= left;
     let r = VersionNumber(word(nodes, left + 1));
-    let sound = is_sound_in(b, false, versions, v) & is_sound_in(b, leaves, versions, l);
-    if !sound {
+    if !is_sound_in(b, false, versions, v) {
+        return Plan::Damaged;
+    }
+    if !is_sound_in(b, leaves, versions, l) {
         return Plan::Damaged;
     }
     if is_sound_in(b, leaves, versions, r) {
@@ -190,13 +192,16 @@ fn try_swap(
     ensures { λ p. ⌜ p ≡ refreshHeld b c (Held.Both v l r) (now (nodes .entry)) (now (versions .entry)) ⌝ }
 {
     let leaves = b.cells <= 2 * c.node.0;
-    let sound = (is_sound_in(b, false, versions, v) & is_sound_in(b, leaves, versions, l))
-        & is_sound_in(b, leaves, versions, r);
-    if sound {
-        join(b, c, v, l, r, nodes, versions)
-    } else {
-        Plan::Damaged
+    if !is_sound_in(b, false, versions, v) {
+        return Plan::Damaged;
     }
+    if !is_sound_in(b, leaves, versions, l) {
+        return Plan::Damaged;
+    }
+    if !is_sound_in(b, leaves, versions, r) {
+        return Plan::Damaged;
+    }
+    join(b, c, v, l, r, nodes, versions)
 }
 
 pub fn refresh(b: Bounds, c: Climb, held: Held, nodes: &[u64], versions: &[u64]) -> Plan

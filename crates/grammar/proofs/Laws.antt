@@ -2,7 +2,7 @@
 -- Assumes nothing.
 use mathlib.Core.Path.{_≡_, refl, sym, ap, _∙_}
 use mathlib.Core.List.{List, [], _∷_}
-use mathlib.Core.Bool.{Bool, true, false}
+use mathlib.Core.Bool.{Bool, true, false, _&&_}
 use Prim.Native.Nat.{ℕ, suc, _+_, _-_, _*_, _^_, _≤_, _<_}
 use native.Mathlib.Numerals.{add-one}
 use native.Mathlib.Nat.{pow-suc, pow-le-pow-right}
@@ -19,17 +19,38 @@ use Rattle.grammar.specs.declared.Number.{Number}
 pub first : (s : List ℕ) (i : ℕ) → i < length s → drop i s ≡ getD s i 0 ∷ drop (i + 1) s
 first s i h = rw (add-one, drop-cons s i 0)
 
-pub starts-step : (w s : List ℕ) (i : ℕ) → i < length w → i < length s → starts (drop i w) (drop i s) ≡ pick (eqb (getD w i 0) (getD s i 0)) (starts (drop (i + 1) w) (drop (i + 1) s)) false
+starts-step : (w s : List ℕ) (i : ℕ) → i < length w → i < length s → starts (drop i w) (drop i s) ≡ pick (eqb (getD w i 0) (getD s i 0)) (starts (drop (i + 1) w) (drop (i + 1) s)) false
 unfolding starts
 starts-step w s i h k = rw (add-one, drop-cons w i 0, drop-cons s i 0)
 
-pub starts-short : (w s : List ℕ) (i : ℕ) → i < length w → length s ≤ i → starts (drop i w) (drop i s) ≡ false
-unfolding starts
-starts-short w s i h k = rw (drop-cons w i 0, drop-of-length-le s k)
+-- what is the same so far, and one byte more
+pub starts-more : (w s : List ℕ) (i : ℕ) (same whole : Bool) → i < length w → length w ≤ length s → (same && starts (drop i w) (drop i s)) ≡ whole
+    → ((same && eqb (getD w i 0) (getD s i 0)) && starts (drop (i + 1) w) (drop (i + 1) s)) ≡ whole
+starts-more w s i same whole h k e = by same (eqb (getD w i 0) (getD s i 0)) (starts (drop (i + 1) w) (drop (i + 1) s)) ∙ ap (λ (t : Bool). same && t) (sym (starts-step w s i h (omega (arith, h, k)))) ∙ e
+  where
+    by : (a b t : Bool) → ((a && b) && t) ≡ (a && pick b t false)
+    by true true t = refl
+    by true false t = refl
+    by false true t = refl
+    by false false t = refl
 
-pub starts-done : (w t : List ℕ) (i : ℕ) → length w ≤ i → starts (drop i w) t ≡ true
+pub starts-short : (w s : List ℕ) → length s < length w → starts w s ≡ false
 unfolding starts
-starts-done w t i h = rw (drop-of-length-le w h)
+starts-short [] s h = absurd (omega (arith, h))
+starts-short (x ∷ w) [] h = refl
+starts-short (x ∷ w) (b ∷ s) h = by (eqb x b) (starts w s) (starts-short w s (omega (arith, h)))
+  where
+    by : (e t : Bool) → t ≡ false → pick e t false ≡ false
+    by true t f = f
+    by false t f = refl
+
+pub starts-done : (w s : List ℕ) (i : ℕ) (same whole : Bool) → length w ≤ i → (same && starts (drop i w) (drop i s)) ≡ whole → same ≡ whole
+unfolding starts
+starts-done w s i same whole h e = by same (starts (drop i w) (drop i s)) (rw (drop-of-length-le w h)) ∙ e
+  where
+    by : (a t : Bool) → t ≡ true → a ≡ (a && t)
+    by true t f = sym f
+    by false t f = refl
 
 pub digits-step : (s : List ℕ) (i v : ℕ) → i < length s → digits i v (drop i s) ≡ pick (ltb (getD s i 0) 48) (ended i v) (pick (ltb 57 (getD s i 0)) (ended i v) (digits (i + 1) (v * 10 + (getD s i 0 - 48)) (drop (i + 1) s)))
 unfolding digits
@@ -64,12 +85,6 @@ small i h = pow-le-pow-right {n = 10} (omega arith) h
 -- the rest of a slice
 pub rest : (s : List ℕ) (a : ℕ) → take (length s - a) (drop a s) ≡ drop a s
 rest s a = take-all (length s - a) (drop a s) (omega (arith, length-drop a s))
-
-pub starts-diff : (w s : List ℕ) (i : ℕ) → i < length w → i < length s → (getD w i 0 ≡ getD s i 0 → ⊥) → starts (drop i w) (drop i s) ≡ false
-starts-diff w s i h k ne = starts-step w s i h k ∙ simp (ne-eqb _ _ ne)
-
-pub starts-same : (w s : List ℕ) (i : ℕ) → i < length w → i < length s → getD w i 0 ≡ getD s i 0 → starts (drop i w) (drop i s) ≡ starts (drop (i + 1) w) (drop (i + 1) s)
-starts-same w s i h k e = starts-step w s i h k ∙ simp (eq-eqb _ _ e)
 
 -- a byte of the bytes is no digit, or is one
 module _ (s : List ℕ) (i v b : ℕ) (h : i < length s) (e : b ≡ getD s i 0) where

@@ -51,18 +51,16 @@ pub enum Asked {
 fn starts_with(word: &[u8], s: &[u8]) -> bool
     ensures { λ r. ⌜ r ≡ starts (now (word .entry)) (now (s .entry)) ⌝ }
 {
+    if s.len() < word.len() {
+        return false;
+    }
+    let mut same = true;
     let mut i = 0;
     while i < word.len() {
-        if i < s.len() {
-            if word[i] != s[i] {
-                return false;
-            }
-        } else {
-            return false;
-        }
+        same = same & (word[i] == s[i]);
         i += 1;
     }
-    true
+    same
 }
 
 fn wide(x: u8) -> u64

@@ -27,7 +27,7 @@ use denote.Lend.{Held, lends-slice, slice-back}
 use denote.Index.{row, whole-in, whole-out}
 use denote.Steps.{only, owned, peeks}
 use denote.Struct.Steps.{spelt}
-use Rattle.lines.proofs.Lends.{at-list}
+use Rattle.board.proofs.Shared.{at-list}
 
 module _ {M : Type 1} {𝓤 : URA M} {H : Heap 𝓤} {A : Atoms 𝓤} {K : Type 0} {W : Given 𝓤 H A} {Γ : List (Item 𝓤)} {E : Env 𝓤 H} {C : Calls 𝓤 H} {Λ : Loops 𝓤 H} {q : Post 𝓤 H} where
   pub lends-array : K → {body : Body} → (R : RattleType) (vals : R .Denot → List Val) → Makes 𝓤 H A R (Is R) → Single (R .mir) → (n : ℕ) → Room R n → {l : ℕ} (xs : List (R .Denot)) → Is (Array R n) xs (array-vals vals xs)

@@ -4,12 +4,10 @@ use mathlib.Core.Path.{_≡_, sym, ap, _∙_}
 use mathlib.Core.Bool.{Bool, true, false}
 use Prim.Native.Nat.{ℕ, _≤_, _<_}
 use borrow.Author.Tests.{le-leb, lt-leb}
-use lib.Dec.{leb}
 use Rattle.grammar.specs.declared.Command.{Command}
 use Rattle.grammar.specs.declared.Line.{Line}
 use Rattle.trie.specs.declared.Operation.{Operation}
 use Rattle.trie.specs.Choice.{pick}
-use Rattle.lines.specs.declared.Call.{Call}
 use Rattle.lines.specs.declared.History.{History}
 use Rattle.lines.specs.Watch.{mostCells, opened}
 use Rattle.lines.specs.Calling.{wordsOf, noOperation, call, refusal, callOf}
@@ -19,13 +17,9 @@ module _ (line : Line) (command : Command) (h : History) (p : line ≡ Line.Is c
   of-line d q = ap (λ (l : Line). callOf l h) (ap Line.Is (sym q) ∙ sym p)
 
   module _ (i : ℕ) (q : command ≡ Command.Step i) where
-    pub step-open : opened h ≡ true → (k : ℕ) (o : Operation) → k ≡ wordsOf (h .versions) → o ≡ noOperation → call 1 i k o ≡ callOf line h
+    pub step-refused : refusal 10 ≡ callOf line h
     unfolding callOf
-    step-open e k o ek eo = (λ t. call 1 i (ek t) (eo t)) ∙ ap (λ (t : Bool). pick t (call 1 i (wordsOf (h .versions)) noOperation) (refusal 10)) (sym e) ∙ of-line _ q
-
-    pub step-closed : opened h ≡ false → refusal 10 ≡ callOf line h
-    unfolding callOf
-    step-closed e = ap (λ (t : Bool). pick t (call 1 i (wordsOf (h .versions)) noOperation) (refusal 10)) (sym e) ∙ of-line _ q
+    step-refused = of-line _ q
 
   module _ (i : ℕ) (o : Operation) (q : command ≡ Command.Start i o) where
     pub start-open : opened h ≡ true → (k : ℕ) → k ≡ wordsOf (h .versions) → call 2 i k o ≡ callOf line h

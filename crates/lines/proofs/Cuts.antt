@@ -49,7 +49,7 @@ byte-fits : (t : Bool) (q : Part) (s : Watch) (a : Answered) (w : List ℕ) → 
 byte-fits true q s a w h = omega arith
 byte-fits false q s a w h = h
 
-served-fits : (xs : List ℕ) (p : Part) (s : Watch) (w : List ℕ) → fits p → fits (servedOf (listing p s w) xs .part)
+pub served-fits : (xs : List ℕ) (p : Part) (s : Watch) (w : List ℕ) → fits p → fits (servedOf (listing p s w) xs .part)
 unfolding servedOf
 served-fits [] p s w h = h
 served-fits (b ∷ xs) p s w h =

@@ -3,21 +3,20 @@
 use mathlib.Core.Path.{_≡_, refl, sym, ap, _∙_}
 use mathlib.Core.Bool.{Bool, true, false}
 use mathlib.Core.List.{List, [], _∷_, _++_, append-assoc, append-nil}
-use Prim.Native.Nat.{ℕ, zero, suc, _+_, _*_, _-_, _≤_, _<_}
+use Prim.Native.Nat.{ℕ, suc, _+_, _-_, _≤_, _<_}
 use native.Mathlib.Numerals.{add-one}
 use native.Mathlib.Omega.{arith}
-use borrow.Author.Tests.{eq-eqb, ne-eqb, lt-ltb, le-ltb, le-leb, lt-leb, leb-true, leb-false, ltb-true, ltb-false}
+use borrow.Author.Tests.{eq-eqb, ne-eqb, lt-ltb, le-leb, lt-leb, leb-true, leb-false, ltb-true, ltb-false}
 use lib.Dec.{eqb, ltb, leb}
 use lib.ListN.{length, take, drop, getD, length-append, take-append-drop, drop-of-length-le, length-drop, length-take}
-use lib.Seq.{paste, drop-cons, take-suc, take-all, getD-drop, drop-drop, take-length, take-paste, drop-paste, length-take-le}
-use Rattle.grammar.specs.declared.Line.{Line}
+use lib.Seq.{paste, drop-cons, take-suc, getD-drop, drop-drop, take-length, take-paste, drop-paste, length-take-le}
 use Rattle.grammar.specs.Grammar.{lineOf}
 use Rattle.trie.specs.Choice.{pick}
 use Rattle.lines.specs.declared.Begun.{Begun}
 use Rattle.lines.specs.Text.{Put}
 use Rattle.lines.specs.Watch.{Watch}
 use Rattle.lines.specs.Turns.{Answered, lineTurn}
-use Rattle.lines.specs.Chunks.{longest, Part, upto, over, more, lineAt, Listing, listing, ended, byteOf, servedOf, zeros, partOf, begunOf, outcome}
+use Rattle.lines.specs.Chunks.{longest, Part, upto, over, more, lineAt, listing, ended, servedOf, zeros, partOf, begunOf}
 use Rattle.lines.specs.Feeding.{plain, grown, between, Ends}
 
 pub not-both : false ≡ true → ⊥
@@ -120,10 +119,6 @@ module _ (chunk : List ℕ) (i e : ℕ) (h : Ends chunk i e) (p : Part) (s : Wat
   served-rest l =
       sym (ap (servedOf (listing p s w)) cut ∙ served-plain xs (drop e chunk) p s w (h .bytes)
       ∙ ap (servedOf (listing (grown p xs) s w)) (drop-of-length-le chunk l))
-
-pub served-none : (chunk : List ℕ) (i : ℕ) (l : Listing) → length chunk ≤ i → l ≡ servedOf l (drop i chunk)
-unfolding servedOf
-served-none chunk i l h = sym (ap (servedOf l) (drop-of-length-le chunk h))
 
 -- ---- text that is put is text written
 

@@ -1,7 +1,5 @@
-mod Callee
-mod GivenUp
+mod Branches
 mod Rows
-mod Lends
 mod Arrays
 pub mod Texts
 mod Called
@@ -11,3 +9,5 @@ mod Shorts
 mod Runs
 mod Outcomes
 pub mod Cuts
+pub mod Whole
+pub mod Opened

@@ -5,17 +5,18 @@ use mathlib.Core.Bool.{Bool, true, false, _&&_}
 use mathlib.Core.List.{List, [], _∷_}
 use Prim.Native.Nat.{ℕ, _+_, _*_, _-_, _≤_}
 use native.Mathlib.Omega.{arith}
-use borrow.Author.Tests.{eqb-true, ne-eqb, le-ltb}
-use lib.Dec.{eqb}
+use borrow.Author.Tests.{eqb-true, ne-eqb, le-ltb, leb-true, ltb-false}
+use lib.Dec.{eqb, leb, ltb}
 use lib.ListN.{length, take, drop, getD, length-drop}
 use lib.Seq.{getD-drop}
 use Rattle.grammar.specs.declared.Command.{Command}
 use Rattle.grammar.specs.declared.Line.{Line}
 use Rattle.grammar.specs.Grammar.{starts, ended, digits, numberOf, oneOf, commandOf, lineOf}
+use Rattle.trie.specs.Choice.{pick}
 use Rattle.trie.specs.SizeLaws.{and-first, and-second}
 use Rattle.lines.specs.declared.chunks.Short.{Short}
-use Rattle.lines.specs.Feeding.{plain, between, Ends}
-use Rattle.lines.specs.Places.{isStep, Found}
+use Rattle.lines.specs.Feeding.{plain, between}
+use Rattle.lines.specs.Places.{isStep, digitOf, Found}
 
 six : (l : List ℕ) → 6 ≤ length l → take 6 l ≡ getD l 0 0 ∷ getD l 1 0 ∷ getD l 2 0 ∷ getD l 3 0 ∷ getD l 4 0 ∷ getD l 5 0 ∷ []
 six [] h = absurd (omega arith)
@@ -53,6 +54,25 @@ one-plain d lo = simp (ne-eqb d 10 (λ z. omega arith))
 two-plain : (d f : ℕ) → 48 ≤ d → 48 ≤ f → plain (115 ∷ 116 ∷ 101 ∷ 112 ∷ 32 ∷ d ∷ f ∷ []) ≡ true
 unfolding plain
 two-plain d f lo lo′ = simp (ne-eqb d 10 (λ z. omega arith), ne-eqb f 10 (λ z. omega arith))
+
+-- a byte that stands for a digit
+lies : (x a : ℕ) → a ≡ digitOf x → a ≤ 9 → (48 ≤ x) × (x ≤ 57) × (a ≡ x - 48)
+lies x a e h = by (leb 48 x && leb x 57) refl e
+  where
+    by : (t : Bool) → leb 48 x && leb x 57 ≡ t → a ≡ pick t (x - 48) 10 → (48 ≤ x) × (x ≤ 57) × (a ≡ x - 48)
+    by true q e = (leb-true 48 x (and-first (leb 48 x) (leb x 57) q), leb-true x 57 (and-second (leb 48 x) (leb x 57) q), e)
+    by false q e = absurd (omega (arith, e, h))
+
+pub digit-most : (x a : ℕ) → a ≡ digitOf x → a ≤ 10
+digit-most x a e = by (leb 48 x && leb x 57) refl e
+  where
+    by : (t : Bool) → leb 48 x && leb x 57 ≡ t → a ≡ pick t (x - 48) 10 → a ≤ 10
+    by true q e = omega (arith, e, leb-true x 57 (and-second (leb 48 x) (leb x 57) q))
+    by false q e = omega (arith, e)
+
+pub end-most : (two : Bool) (i e : ℕ) → e ≡ pick two (i + 7) (i + 6) → e ≤ i + 7
+end-most true i e q = omega (arith, q)
+end-most false i e q = omega (arith, q)
 
 -- ---- the bytes where they lie
 
@@ -100,9 +120,10 @@ module _ (chunk : List ℕ) (i : ℕ) (h : i + 8 ≤ length chunk) (named : isSt
         ap (λ (k : ℕ). take k (drop i chunk)) n ∙ six (drop i chunk) (omega (arith, long))
         ∙ (λ t. byte0 t ∷ byte1 t ∷ byte2 t ∷ byte3 t ∷ byte4 t ∷ at 5 d (sym ed) t ∷ [])
 
-    pub short-one : getD chunk (i + 6) 0 ≡ 10 → Found chunk i (Short.Step (d - 48) (i + 6))
+    short-one : getD chunk (i + 6) 0 ≡ 10 → Found chunk i (Short.Step (d - 48) (i + 6))
     short-one e = (
       record { onward = omega arith; within = omega arith; bytes = ap plain one-bytes ∙ one-plain d lo; newline = λ _. e },
+      omega arith,
       ap lineOf one-bytes ∙ one-line d lo hi,
     )
 
@@ -113,8 +134,26 @@ module _ (chunk : List ℕ) (i : ℕ) (h : i + 8 ≤ length chunk) (named : isSt
           ap (λ (k : ℕ). take k (drop i chunk)) n ∙ seven (drop i chunk) (omega (arith, long))
           ∙ (λ t. byte0 t ∷ byte1 t ∷ byte2 t ∷ byte3 t ∷ byte4 t ∷ at 5 d (sym ed) t ∷ at 6 f (sym ef) t ∷ [])
 
-      pub short-two : getD chunk (i + 7) 0 ≡ 10 → Found chunk i (Short.Step (10 * (d - 48) + (f - 48)) (i + 7))
+      short-two : getD chunk (i + 7) 0 ≡ 10 → Found chunk i (Short.Step (10 * (d - 48) + (f - 48)) (i + 7))
       short-two e = (
         record { onward = omega arith; within = omega arith; bytes = ap plain two-bytes ∙ two-plain d f lo lo′; newline = λ _. e },
+        omega arith,
         ap lineOf two-bytes ∙ two-line d f lo hi lo′ hi′,
       )
+
+  -- with one digit or two
+  pub short-found : (two : Bool) (d f tens ones k e : ℕ) → d ≡ getD chunk (i + 5) 0 → tens ≡ digitOf d → tens ≤ 9 → f ≡ getD chunk (i + 6) 0 → ones ≡ digitOf f → e ≡ pick two (i + 7) (i + 6)
+      → getD chunk e 0 ≡ 10 → ltb 9 ones && two ≡ false → k ≡ pick two (10 * tens + ones) tens → Found chunk i (Short.Step k e)
+  short-found true d f tens ones k e ed et ht ef eo ee nl few ek =
+      let t = lies d tens et ht in
+      let o = lies f ones eo (ltb-false 9 ones (by (ltb 9 ones) few)) in
+      let n : k ≡ 10 * (d - 48) + (f - 48) = omega (arith, ek, t .2, o .2) in
+      subst (Found chunk i) (λ j. Short.Step (sym n j) (sym ee j)) (short-two d ed (t .0) (t .1) f ef (o .0) (o .1) (ap (λ (j : ℕ). getD chunk j 0) (sym ee) ∙ nl))
+    where
+      by : (b : Bool) → b && true ≡ false → b ≡ false
+      by true z = z
+      by false z = refl
+  short-found false d f tens ones k e ed et ht ef eo ee nl few ek =
+      let t = lies d tens et ht in
+      let n : k ≡ d - 48 = omega (arith, ek, t .2) in
+      subst (Found chunk i) (λ j. Short.Step (sym n j) (sym ee j)) (short-one d ed (t .0) (t .1) (ap (λ (j : ℕ). getD chunk j 0) (sym ee) ∙ nl))

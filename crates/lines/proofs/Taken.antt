@@ -7,7 +7,7 @@ use Prim.Native.Nat.{ℕ, _*_, _-_, _≤_}
 use native.Mathlib.Omega.{arith}
 use borrow.Author.Tests.{leb-true}
 use lib.Dec.{leb, eqb}
-use lib.ListN.{length, take, drop, take-append-drop}
+use lib.ListN.{take, drop, take-append-drop}
 use Rattle.decibel.specs.Told.{Told, refused, gives}
 use Rattle.grammar.specs.declared.Command.{Command}
 use Rattle.grammar.specs.declared.Line.{Line}
@@ -26,10 +26,10 @@ use Rattle.lines.specs.declared.Call.{Call}
 use Rattle.lines.specs.declared.History.{History}
 use Rattle.lines.specs.declared.Reply.{Reply}
 use Rattle.lines.specs.declared.Turn.{Turn}
-use Rattle.lines.specs.Text.{refusedText, acceptedText, courseText, replyText}
+use Rattle.lines.specs.Text.{acceptedText, courseText, replyText}
 use Rattle.lines.specs.Watch.{Watch, watch, history, mostCells, mostVersions, opened, lent, returned}
-use Rattle.lines.specs.Turns.{Answered, answered, refuses, openedAs, opens, room, openLine, starts, steps, startLine, stepLine, lineTurn, turned}
-use Rattle.lines.specs.Calling.{wordsOf, noOperation, call, refusal, callOf, crewOf, keptBy}
+use Rattle.lines.specs.Turns.{Answered, answered, refuses, opens, room, openLine, startLine, stepLine, lineTurn, turned}
+use Rattle.lines.specs.Calling.{wordsOf, noOperation, call, refusal, stepping, callOf, crewOf, keptBy}
 use Rattle.lines.proofs.Feeds.{not-both}
 
 room-most : (v : ℕ) → room v ≤ mostVersions
@@ -49,15 +49,18 @@ room-same h e =
     let g = leb (h .versions) mostVersions in
     ap (λ (t : Bool). pick t (h .versions) 0) (and-second f g (and-second c (f && g) (and-second a (c && (f && g)) e)))
 
+pub lent-most : (v : ℕ) → wordsOf v ≤ width * mostVersions
+lent-most v = omega (arith, room-most v)
+
 by-pick : (t : Bool) (a b : Call) → a .words ≤ width * mostVersions → b .words ≤ width * mostVersions → pick t a b .words ≤ width * mostVersions
 by-pick true a b p q = p
 by-pick false a b p q = q
 
 most-words : (line : Line) (h : History) → callOf line h .words ≤ width * mostVersions
 unfolding callOf
-most-words (Line.Is (Command.Step i)) h = by-pick (opened h) _ _ (omega (arith, room-most (h .versions))) (omega arith)
-most-words (Line.Is (Command.Start i o)) h = by-pick (opened h) _ _ (omega (arith, room-most (h .versions))) (omega arith)
-most-words (Line.Is (Command.Open n w v)) h = by-pick (leb n mostCells) _ _ (omega (arith, room-most v)) (omega arith)
+most-words (Line.Is (Command.Step i)) h = omega arith
+most-words (Line.Is (Command.Start i o)) h = by-pick (opened h) _ _ (lent-most (h .versions)) (omega arith)
+most-words (Line.Is (Command.Open n w v)) h = by-pick (leb n mostCells) _ _ (lent-most v) (omega arith)
 most-words Line.Not h = omega arith
 
 pub words-most : (line : Line) (h : History) (c : Call) → c ≡ callOf line h → c .words ≤ width * mostVersions
@@ -94,31 +97,12 @@ module _ (h : History) (nodes versions : List ℕ) (board : List Worker) where
   unfolding stepLine
   step-line i e = rw (e, room-same h e)
 
-  step-called : (line : Line) (c : Call) → c ≡ callOf line h → eqb (c .kind) 1 ≡ true → stepped (c .number) (c .words) ≡ lineTurn line s
-  unfolding callOf lineTurn
-  step-called (Line.Is (Command.Step i)) c e k = by (opened h) refl e
-    where
-      by : (t : Bool) → opened h ≡ t → c ≡ pick t (call 1 i (wordsOf (h .versions)) noOperation) (refusal 10) → stepped (c .number) (c .words) ≡ stepLine i s
-      by true q e = (λ j. stepped (e j .number) (e j .words)) ∙ step-line i q
-      by false q e = absurd (not-both (ap (λ (x : Call). eqb (x .kind) 1) (sym e) ∙ k))
-  step-called (Line.Is (Command.Start i o)) c e k = by (opened h) e
-    where
-      by : (t : Bool) → c ≡ pick t (call 2 i (wordsOf (h .versions)) o) (refusal 10) → stepped (c .number) (c .words) ≡ startLine i o s
-      by true e = absurd (not-both (ap (λ (x : Call). eqb (x .kind) 1) (sym e) ∙ k))
-      by false e = absurd (not-both (ap (λ (x : Call). eqb (x .kind) 1) (sym e) ∙ k))
-  step-called (Line.Is (Command.Open n w v)) c e k = by (leb n mostCells) e
-    where
-      by : (t : Bool) → c ≡ pick t (call 3 n (wordsOf v) noOperation) (refusal 1) → stepped (c .number) (c .words) ≡ openLine n w v s
-      by true e = absurd (not-both (ap (λ (x : Call). eqb (x .kind) 1) (sym e) ∙ k))
-      by false e = absurd (not-both (ap (λ (x : Call). eqb (x .kind) 1) (sym e) ∙ k))
-  step-called Line.Not c e k = absurd (not-both (ap (λ (x : Call). eqb (x .kind) 1) (sym e) ∙ k))
-
-  pub step-taken : (line : Line) (c : Call) (p : Progress) (nodes′ part : List ℕ) (board′ : List Worker) (t : Turn) → c ≡ callOf line h → eqb (c .kind) 1 ≡ true
-      → after (progressOf p) (state nodes′ part board′) ≡ stepOf (h .cells) (h .workers) (c .number) (state nodes (take (c .words) versions) board)
-      → t ≡ record { reply = Reply.Progress p; history = h } → turned t nodes′ (part ++ drop (c .words) versions) board′ ≡ lineTurn line s
-  unfolding replyText
-  step-taken line c p nodes′ part board′ t e k q r =
-      ap (λ (u : Turn). turned u nodes′ (part ++ drop (c .words) versions) board′) r ∙ ap (λ (a : After Course). shown courseText a (c .words)) q ∙ step-called line c e k
+  -- the words that are lent come back before the others
+  pub step-taken : (i : ℕ) (p : Progress) (nodes′ part : List ℕ) (board′ : List Worker) → opened h ≡ true
+      → after (progressOf p) (state nodes′ part board′) ≡ stepOf (h .cells) (h .workers) i (state nodes (take (wordsOf (h .versions)) versions) board)
+      → answered (courseText (progressOf p)) (watch h nodes′ (part ++ drop (wordsOf (h .versions)) versions) board′) ≡ lineTurn (Line.Is (Command.Step i)) s
+  unfolding lineTurn
+  step-taken i p nodes′ part board′ e q = ap (λ (a : After Course). shown courseText a (wordsOf (h .versions))) q ∙ step-line i e
 
   -- ---- a start
 
@@ -131,11 +115,7 @@ module _ (h : History) (nodes versions : List ℕ) (board : List Worker) where
 
   start-called : (line : Line) (c : Call) → c ≡ callOf line h → eqb (c .kind) 2 ≡ true → started (c .number) (c .operation) (c .words) ≡ lineTurn line s
   unfolding callOf lineTurn
-  start-called (Line.Is (Command.Step i)) c e k = by (opened h) e
-    where
-      by : (t : Bool) → c ≡ pick t (call 1 i (wordsOf (h .versions)) noOperation) (refusal 10) → started (c .number) (c .operation) (c .words) ≡ stepLine i s
-      by true e = absurd (not-both (ap (λ (x : Call). eqb (x .kind) 2) (sym e) ∙ k))
-      by false e = absurd (not-both (ap (λ (x : Call). eqb (x .kind) 2) (sym e) ∙ k))
+  start-called (Line.Is (Command.Step i)) c e k = absurd (not-both (ap (λ (x : Call). eqb (x .kind) 2) (sym e) ∙ k))
   start-called (Line.Is (Command.Start i o)) c e k = by (opened h) refl e
     where
       by : (t : Bool) → opened h ≡ t → c ≡ pick t (call 2 i (wordsOf (h .versions)) o) (refusal 10) → started (c .number) (c .operation) (c .words) ≡ startLine i o s
@@ -178,11 +158,7 @@ module _ (h : History) (nodes versions : List ℕ) (board : List Worker) where
   open-called : (line : Line) (c : Call) (a : Accepted) (nodes′ part : List ℕ) (board′ : List Worker) → c ≡ callOf line h → eqb (c .kind) 3 ≡ true → Opens line c a nodes′ part board′
       → kept a line nodes′ part board′ (c .words) ≡ lineTurn line s
   unfolding callOf lineTurn
-  open-called (Line.Is (Command.Step i)) c a nodes′ part board′ e k q = by (opened h) e
-    where
-      by : (t : Bool) → c ≡ pick t (call 1 i (wordsOf (h .versions)) noOperation) (refusal 10) → kept a (Line.Is (Command.Step i)) nodes′ part board′ (c .words) ≡ stepLine i s
-      by true e = absurd (not-both (ap (λ (x : Call). eqb (x .kind) 3) (sym e) ∙ k))
-      by false e = absurd (not-both (ap (λ (x : Call). eqb (x .kind) 3) (sym e) ∙ k))
+  open-called (Line.Is (Command.Step i)) c a nodes′ part board′ e k q = absurd (not-both (ap (λ (x : Call). eqb (x .kind) 3) (sym e) ∙ k))
   open-called (Line.Is (Command.Start i o)) c a nodes′ part board′ e k q = by (opened h) e
     where
       by : (t : Bool) → c ≡ pick t (call 2 i (wordsOf (h .versions)) o) (refusal 10) → kept a (Line.Is (Command.Start i o)) nodes′ part board′ (c .words) ≡ startLine i o s
@@ -210,13 +186,9 @@ module _ (h : History) (nodes versions : List ℕ) (board : List Worker) where
   true-not : {A : Type 0} → true ≡ false → A
   true-not e = absurd (not-both (sym e))
 
-  refused-called : (line : Line) (c : Call) → c ≡ callOf line h → eqb (c .kind) 1 ≡ false → eqb (c .kind) 2 ≡ false → eqb (c .kind) 3 ≡ false → refuses (c .number) s ≡ lineTurn line s
+  refused-called : (line : Line) (c : Call) → c ≡ callOf line h → stepping line h ≡ false → eqb (c .kind) 2 ≡ false → eqb (c .kind) 3 ≡ false → refuses (c .number) s ≡ lineTurn line s
   unfolding callOf lineTurn stepLine startLine openLine
-  refused-called (Line.Is (Command.Step i)) c e k _ _ = by (opened h) refl e
-    where
-      by : (t : Bool) → opened h ≡ t → c ≡ pick t (call 1 i (wordsOf (h .versions)) noOperation) (refusal 10) → refuses (c .number) s ≡ stepLine i s
-      by true q e = true-not (ap (λ (x : Call). eqb (x .kind) 1) (sym e) ∙ k)
-      by false q e = (λ j. refuses (e j .number) s) ∙ rw q
+  refused-called (Line.Is (Command.Step i)) c e k _ _ = (λ j. refuses (e j .number) s) ∙ rw k
   refused-called (Line.Is (Command.Start i o)) c e _ k _ = by (opened h) refl e
     where
       by : (t : Bool) → opened h ≡ t → c ≡ pick t (call 2 i (wordsOf (h .versions)) o) (refusal 10) → refuses (c .number) s ≡ startLine i o s
@@ -229,7 +201,7 @@ module _ (h : History) (nodes versions : List ℕ) (board : List Worker) where
       by false q e = (λ j. refuses (e j .number) s) ∙ rw q
   refused-called Line.Not c e _ _ _ = λ j. refuses (e j .number) s
 
-  pub refused-taken : (line : Line) (c : Call) (t : Turn) → c ≡ callOf line h → eqb (c .kind) 1 ≡ false → eqb (c .kind) 2 ≡ false → eqb (c .kind) 3 ≡ false
+  pub refused-taken : (line : Line) (c : Call) (t : Turn) → c ≡ callOf line h → stepping line h ≡ false → eqb (c .kind) 2 ≡ false → eqb (c .kind) 3 ≡ false
       → t ≡ record { reply = Reply.Accepted (Accepted.Refused (c .number)); history = h } → turned t nodes versions board ≡ lineTurn line s
   unfolding replyText acceptedText
   refused-taken line c t e k₁ k₂ k₃ r = ap (λ (u : Turn). turned u nodes versions board) r ∙ refused-called line c e k₁ k₂ k₃

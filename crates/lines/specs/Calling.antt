@@ -1,5 +1,5 @@
 -- The call that a line makes, as the code has it: its kind, the number that it names, and the words of the version table that it is lent.
--- Kinds: 1 a step, 2 a start, 3 an open; 0 is a refusal, and its number is the refusal's. Assumes nothing.
+-- Kinds: 2 a start, 3 an open; 0 is a refusal, and its number is the refusal's. Assumes nothing.
 use mathlib.Core.Bool.{Bool, true, false}
 use Prim.Native.Nat.{ℕ, _*_}
 use lib.Dec.{leb}
@@ -29,8 +29,15 @@ call kind number words o = record { kind = kind; number = number; words = words;
 abbrev pub refusal : ℕ → Call
 refusal number = call 0 number 0 noOperation
 
+-- a step of the history under way, which is served in a run of steps and makes no call here
+abbrev pub stepping : Line → History → Bool
+stepping (Line.Is (Command.Step i)) h = opened h
+stepping (Line.Is (Command.Start i o)) h = false
+stepping (Line.Is (Command.Open n w v)) h = false
+stepping Line.Not h = false
+
 unfoldable pub callOf : Line → History → Call
-callOf (Line.Is (Command.Step i)) h = pick (opened h) (call 1 i (wordsOf (h .versions)) noOperation) (refusal 10)
+callOf (Line.Is (Command.Step i)) h = refusal 10
 callOf (Line.Is (Command.Start i o)) h = pick (opened h) (call 2 i (wordsOf (h .versions)) o) (refusal 10)
 callOf (Line.Is (Command.Open n w v)) h = pick (leb n mostCells) (call 3 n (wordsOf v) noOperation) (refusal 1)
 callOf Line.Not h = refusal 10

@@ -6,3 +6,4 @@ pub mod Chunks
 pub mod Feeding
 pub mod Places
 pub mod Decided
+pub mod Whole

@@ -2,6 +2,7 @@
 // Only an accepted open changes them.
 ghost use mathlib.Core.Path.{_≡_};
 ghost use Rattle.lines.specs.Watch.{history, opened};
+ghost use Rattle.lines.specs.Calling.{wordsOf};
 use crate::History;
 
 // Before the first accepted open.
@@ -28,4 +29,30 @@ pub(crate) fn is_open(h: History) -> bool
         return false;
     }
     ((1 <= w) & (w <= 16)) & ((2 * n - 1 <= v) & (v <= 1000))
+}
+
+// The words that are lent to an open; none where V is more than there are here, so that it is refused with 3.
+pub(crate) fn words(v: u64) -> usize
+    ensures { λ r. ⌜ r ≡ wordsOf v ⌝ }
+{
+    if v <= 1000 { (5 * v) as usize } else { 0 }
+}
+
+// The words that are lent to the calls of a history.
+pub(crate) fn lent_words(h: History) -> usize
+    ensures { λ r. ⌜ r ≡ wordsOf (h .versions) ⌝ }
+{
+    words(h.versions)
+}
+
+pub(crate) fn cells_of(h: History) -> u64
+    ensures { λ r. ⌜ r ≡ h .cells ⌝ }
+{
+    h.cells
+}
+
+pub(crate) fn workers_of(h: History) -> u64
+    ensures { λ r. ⌜ r ≡ h .workers ⌝ }
+{
+    h.workers
 }

@@ -34,7 +34,7 @@ pub enum Reply {
     Progress(Progress),
 }
 
-// The call that a line makes: 1 a step, 2 a start, 3 an open; or 0 and the number of its refusal.
+// The call that a line makes: 2 a start, 3 an open; or 0 and the number of its refusal.
 pub struct Call {
     pub kind: u64,
     pub number: u64,
@@ -55,6 +55,16 @@ pub struct Place {
     pub end: usize,
     pub history: History,
     pub filled: usize,
+}
+
+// A step among the lines of a chunk: its worker, where its line begins and ends, and where the text of the answers ends.
+// Where `on` is false the run of steps has ended, and the next line begins at `from`.
+pub struct Run {
+    pub number: u64,
+    pub from: usize,
+    pub end: usize,
+    pub filled: usize,
+    pub on: bool,
 }
 
 // What is kept from one chunk to the next, and where the text of the answers ends.

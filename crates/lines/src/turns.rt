@@ -1,28 +1,24 @@
 // One line served: which call it makes, the call, and what it tells.
 // The board and the tables are lent on; of the version table exactly the words of V versions.
 ghost use mathlib.Core.Path.{_≡_};
+ghost use mathlib.Core.Bool.{false};
 ghost use Rattle.lines.specs.Watch.{watch, Roomy};
 ghost use Rattle.lines.specs.Turns.{turned, lineTurn};
-ghost use Rattle.lines.specs.Calling.{wordsOf, noOperation, call, refusal, callOf, crewOf, askedBy, keptBy};
+ghost use Rattle.lines.specs.Calling.{noOperation, call, refusal, stepping, callOf, crewOf, askedBy, keptBy};
 use crate::Call;
 use crate::History;
 use crate::Reply;
 use crate::Turn;
+use crate::histories::cells_of;
 use crate::histories::is_open;
+use crate::histories::words;
+use crate::histories::workers_of;
 use grammar::Command;
 use grammar::Line;
 use trie::Accepted;
 use trie::Operation;
-use trie::Progress;
 use trie::Query;
 use trie::Worker;
-
-// The words that are lent to an open; none where V is more than there are here, so that it is refused with 3.
-fn words(v: u64) -> usize
-    ensures { λ r. ⌜ r ≡ wordsOf v ⌝ }
-{
-    if v <= 1000 { (5 * v) as usize } else { 0 }
-}
 
 // Where a line asks for no operation.
 fn no_operation() -> Operation
@@ -49,6 +45,7 @@ fn refused(number: u64) -> Call
 }
 
 // The call that a line makes, or its refusal: 10 for none, 10 before the first accepted open, 1 for more than 16 cells.
+// A step of a history under way is no call here: runs of steps are served by themselves.
 fn call_of(line: Line, h: History) -> Call
     ensures { λ r. ⌜ r ≡ callOf line h ⌝ }
 {
@@ -57,13 +54,7 @@ fn call_of(line: Line, h: History) -> Call
     };
     let lent = words(h.versions);
     match command {
-        Command::Step(i) => {
-            if is_open(h) {
-                call_for(1, i, lent, no_operation())
-            } else {
-                refused(10)
-            }
-        }
+        Command::Step(_) => refused(10),
         Command::Start(i, o) => {
             if is_open(h) {
                 call_for(2, i, lent, o)
@@ -78,15 +69,6 @@ fn call_of(line: Line, h: History) -> Call
                 refused(1)
             }
         }
-    }
-}
-
-fn progress_turn(progress: Progress, h: History) -> Turn
-    ensures { λ r. ⌜ r ≡ record { reply = Reply.Progress progress; history = h } ⌝ }
-{
-    Turn {
-        reply: Reply::Progress(progress),
-        history: h,
     }
 }
 
@@ -174,19 +156,7 @@ fn operation_of(call: Call) -> Operation
     call.operation
 }
 
-fn cells_of(h: History) -> u64
-    ensures { λ r. ⌜ r ≡ h .cells ⌝ }
-{
-    h.cells
-}
-
-fn workers_of(h: History) -> u64
-    ensures { λ r. ⌜ r ≡ h .workers ⌝ }
-{
-    h.workers
-}
-
-// Carries out what a line asks for.
+// Carries out what a line asks for that is no step of the history under way.
 pub(crate) fn take_turn(
     line: Line,
     h: History,
@@ -194,7 +164,7 @@ pub(crate) fn take_turn(
     versions: &mut [u64],
     board: &mut [Worker],
 ) -> Turn
-    requires { ⌜ Roomy (now nodes) (now versions) ⌝ }
+    requires { ⌜ Roomy (now nodes) (now versions) × (stepping line h ≡ false) ⌝ }
     ensures { λ r. ⌜ turned r (now (nodes .exit)) (now (versions .exit)) (now (board .exit)) ≡ lineTurn line (watch h (now (nodes .entry)) (now (versions .entry)) (now (board .entry))) ⌝ }
 {
     let call = call_of(line, h);
@@ -203,12 +173,6 @@ pub(crate) fn take_turn(
     let lent = words_of(call);
     let n = cells_of(h);
     let w = workers_of(h);
-    if kind == 1 {
-        return progress_turn(
-            board::step(n, w, number, nodes, &mut versions[..lent], board),
-            h,
-        );
-    }
     if kind == 2 {
         let operation = operation_of(call);
         return accepted_turn(

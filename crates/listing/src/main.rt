@@ -4,8 +4,8 @@ use trie::Phase;
 use trie::Worker;
 
 fn main() {
-    let mut chunk = [0u8; 4096];
-    let mut out = [0u8; 262144];
+    let mut chunk = [0u8; 16384];
+    let mut out = [0u8; 1048576];
     let mut nodes = [0u64; 32];
     let mut versions = [0u64; 5000];
     let mut board = [Worker { phase: Phase::Idle }; 16];
@@ -47,7 +47,7 @@ fn main() {
 }
 
 // Writes the answers; where that fails, says so.
-fn write(out: &[u8; 262144], filled: usize) -> bool {
+fn write(out: &[u8; 1048576], filled: usize) -> bool {
     write_first(out, filled)
 }
 

@@ -10,10 +10,12 @@ use lib.Dec.{eqb, ltb, leb, eqb·suc-zero}
 use lib.ListN.{length}
 use Rattle.trie.specs.Choice.{pick}
 use Rattle.decibel.specs.Conversion.{loudest}
+use Rattle.trie.specs.declared.Phase.{Phase}
+use Rattle.trie.specs.declared.Promised.{Promised}
 use Rattle.trie.specs.declared.Update.{Update}
-use Rattle.trie.specs.Record.{cellOf, updateFits}
+use Rattle.trie.specs.Record.{cellOf, updateFits, owedPhase}
 use Rattle.trie.specs.Sound.{cellEnergy}
-use Rattle.tables.specs.Fitting.{loudnessOf}
+use Rattle.tables.specs.Fitting.{loudnessOf, dueOf, madeOf}
 
 and-false : (t : Bool) → (t && false) ≡ false
 and-false true = refl
@@ -23,43 +25,31 @@ and-true : (t : Bool) → (t && true) ≡ t
 and-true true = refl
 and-true false = refl
 
-or-true : (t : Bool) → (t || true) ≡ true
-or-true true = refl
-or-true false = refl
-
 or-false : (t : Bool) → (t || false) ≡ t
 or-false true = refl
 or-false false = refl
 
--- what is silent is within its range
-silent : (energy level : ℕ) → ((leb energy cellEnergy && leb level loudest) && (eqb energy 0 && eqb level 0)) ≡ (eqb energy 0 && eqb level 0)
-silent zero zero = refl
-silent zero (suc level) = rw (eqb·suc-zero level) (and-false (leb 0 cellEnergy && leb (suc level) loudest))
-silent (suc energy) level = rw (eqb·suc-zero energy) (and-false (leb (suc energy) cellEnergy && leb level loudest))
+leb-zero : (n : ℕ) → leb n 0 ≡ eqb n 0
+leb-zero zero = refl
+leb-zero (suc n) = rw (lt-leb (suc n) 0 (omega arith), eqb·suc-zero n)
 
 -- the words of a leaf: unmarked, or marked and within their range
-words : (count energy level : ℕ) → (((leb count 1 && leb energy cellEnergy) && leb level loudest) && ((eqb energy 0 && eqb level 0) || eqb count 1))
+words : (count energy level : ℕ) → count ≤ 1 → (leb energy (count * cellEnergy) && leb level (count * loudest))
     ≡ (((eqb count 0 && eqb energy 0) && eqb level 0) || ((eqb count 1 && leb energy cellEnergy) && leb level loudest))
-words zero energy level =
-    ap (λ (t : Bool). (leb energy cellEnergy && leb level loudest) && t) (or-false (eqb energy 0 && eqb level 0))
-    ∙ silent energy level
-    ∙ sym (or-false (eqb energy 0 && eqb level 0))
-words (suc zero) energy level =
-    ap (λ (t : Bool). (leb energy cellEnergy && leb level loudest) && t) (or-true (eqb energy 0 && eqb level 0))
-    ∙ and-true (leb energy cellEnergy && leb level loudest)
-words (suc (suc count)) energy level =
-    rw (lt-leb (suc (suc count)) 1 (omega arith), eqb·suc-zero (suc count), ne-eqb (suc (suc count)) 1 (λ h. omega arith))
+words zero energy level h = rw (leb-zero energy, leb-zero level) (sym (or-false (eqb energy 0 && eqb level 0)))
+words (suc zero) energy level h = refl
+words (suc (suc count)) energy level h = absurd (omega (arith, h))
 
-pub leaf-judged : (left right count energy level : ℕ)
-    → (((eqb left 0 && eqb right 0) && ((leb count 1 && leb energy cellEnergy) && leb level loudest)) && ((eqb energy 0 && eqb level 0) || eqb count 1))
+pub leaf-judged : (left right count energy level : ℕ) → count ≤ 1
+    → ((eqb left 0 && eqb right 0) && (leb energy (count * cellEnergy) && leb level (count * loudest)))
     ≡ ((eqb left 0 && eqb right 0) && (((eqb count 0 && eqb energy 0) && eqb level 0) || ((eqb count 1 && leb energy cellEnergy) && leb level loudest)))
-leaf-judged left right count energy level =
-    and-assoc (eqb left 0 && eqb right 0) ((leb count 1 && leb energy cellEnergy) && leb level loudest) ((eqb energy 0 && eqb level 0) || eqb count 1)
-    ∙ ap (λ (t : Bool). (eqb left 0 && eqb right 0) && t) (words count energy level)
-  where
-    and-assoc : (a b c : Bool) → ((a && b) && c) ≡ (a && (b && c))
-    and-assoc true b c = refl
-    and-assoc false b c = refl
+leaf-judged left right count energy level h = ap (λ (t : Bool). (eqb left 0 && eqb right 0) && t) (words count energy level h)
+
+pub leaf-crowded : (left right count energy level : ℕ) → 1 < count
+    → false ≡ ((eqb left 0 && eqb right 0) && (((eqb count 0 && eqb energy 0) && eqb level 0) || ((eqb count 1 && leb energy cellEnergy) && leb level loudest)))
+leaf-crowded left right zero energy level h = absurd (omega (arith, h))
+leaf-crowded left right (suc zero) energy level h = absurd (omega (arith, h))
+leaf-crowded left right (suc (suc count)) energy level h = rw (eqb·suc-zero (suc count), ne-eqb (suc (suc count)) 1 (λ e. omega arith)) (sym (and-false (eqb left 0 && eqb right 0)))
 
 same-leb : (a b c d : ℕ) → (a ≤ b → c ≤ d) → (b < a → d < c) → leb a b ≡ leb c d
 same-leb a b c d f g = by (leb a b) refl
@@ -83,21 +73,21 @@ pub fits-loudness : (n : ℕ) (u : Update) → (ltb (cellOf u) n && leb (loudnes
 fits-loudness n (Update.Insert k l) = refl
 fits-loudness n (Update.Delete k) = and-true (ltb k n)
 
--- a conjunction tested part by part
-pub not-first : (t x : Bool) → not t ≡ true → false ≡ (t && x)
-not-first t x q = rw (not-true t q)
+-- a conjunction tested part by part, each test a call's answer
+pub not-first : (t s x : Bool) → t ≡ s → t ≡ false → false ≡ (s && x)
+not-first t s x e q = rw (← e, q)
 
-pub and-then : (t x a : Bool) → not t ≡ false → a ≡ x → a ≡ (t && x)
-and-then t x a q h = rw (not-false t q) h
+pub and-then : (t s x a : Bool) → t ≡ s → t ≡ true → a ≡ x → a ≡ (s && x)
+and-then t s x a e q h = rw (← e, q) h
 
-pub not-second : (t s x : Bool) → not t ≡ false → not s ≡ true → false ≡ ((t && s) && x)
-not-second t s x q p = rw (not-false t q, not-true s p)
+pub not-first-of-three : (t s u x : Bool) → t ≡ s → not t ≡ true → false ≡ ((s && u) && x)
+not-first-of-three t s u x e q = rw (← e, not-true t q)
 
-pub not-first-of-three : (t s x : Bool) → not t ≡ true → false ≡ ((t && s) && x)
-not-first-of-three t s x q = rw (not-true t q)
+pub not-second : (t s u v x : Bool) → t ≡ s → not t ≡ false → u ≡ v → not u ≡ true → false ≡ ((s && v) && x)
+not-second t s u v x e q f p = rw (← e, ← f, not-false t q, not-true u p)
 
-pub third : (t s x : Bool) → not t ≡ false → not s ≡ false → x ≡ ((t && s) && x)
-third t s x q p = rw (not-false t q, not-false s p)
+pub third : (t s u v x : Bool) → t ≡ s → not t ≡ false → u ≡ v → not u ≡ false → x ≡ ((s && v) && x)
+third t s u v x e q f p = rw (← e, ← f, not-false t q, not-false u p)
 
 pub chosen : (leaf x y a : Bool) → leaf ≡ true → a ≡ x → a ≡ pick leaf x y
 chosen leaf x y a e h = rw e h
@@ -108,3 +98,30 @@ other leaf x y a e h = rw e h
 -- the k-th word of a version that the table has
 pub in-version : (xs ys : List ℕ) (v k : ℕ) → length ys ≡ length xs → 1 ≤ v → v ≤ length xs / 5 → k < 5 → 5 * (v - 1) + k < length ys
 in-version xs ys v k e low high small = omega arith
+
+-- what is due less what is made, or more is made than is due
+owes-less : (share : ℕ) (p : Phase) → madeOf p ≤ dueOf share p → Promised.Of (dueOf share p - madeOf p) ≡ owedPhase share p
+owes-less share Phase.Idle h = refl
+owes-less share (Phase.Read u) h = ap Promised.Of (omega arith)
+owes-less share (Phase.Swap u v) h = ap Promised.Of (omega arith)
+owes-less share (Phase.Refresh c held) h = rw (le-leb (c .made) share h)
+owes-less share (Phase.Ask q) h = refl
+owes-less share (Phase.Find k s) h = refl
+owes-less share (Phase.Rank k s count energy) h = refl
+owes-less share (Phase.Select j s x passed) h = refl
+
+owes-more : (share : ℕ) (p : Phase) → dueOf share p < madeOf p → Promised.Damaged ≡ owedPhase share p
+owes-more share Phase.Idle h = absurd (omega (arith, h))
+owes-more share (Phase.Read u) h = absurd (omega (arith, h))
+owes-more share (Phase.Swap u v) h = absurd (omega (arith, h))
+owes-more share (Phase.Refresh c held) h = rw (lt-leb (c .made) share h)
+owes-more share (Phase.Ask q) h = absurd (omega (arith, h))
+owes-more share (Phase.Find k s) h = absurd (omega (arith, h))
+owes-more share (Phase.Rank k s count energy) h = absurd (omega (arith, h))
+owes-more share (Phase.Select j s x passed) h = absurd (omega (arith, h))
+
+pub owes : (share : ℕ) (p : Phase) (due made : ℕ) → due ≡ dueOf share p → made ≡ madeOf p → made ≤ due → Promised.Of (due - made) ≡ owedPhase share p
+owes share p due made e f h = rw (e, f) (owes-less share p (omega (arith, e, f, h)))
+
+pub owes-too-much : (share : ℕ) (p : Phase) (due made : ℕ) → due ≡ dueOf share p → made ≡ madeOf p → due < made → Promised.Damaged ≡ owedPhase share p
+owes-too-much share p due made e f h = owes-more share p (omega (arith, e, f, h))

@@ -4,7 +4,7 @@ ghost use mathlib.Core.Path.{_≡_};
 ghost use mathlib.Core.Bool.{_&&_};
 ghost use lib.Dec.{leb};
 ghost use Rattle.trie.specs.Size.{mostCells};
-ghost use Rattle.tables.specs.Fitting.{loudnessOf};
+ghost use Rattle.tables.specs.Fitting.{loudnessOf, dueOf, madeOf};
 ghost use Rattle.trie.specs.Record.{idle, busyPhase, busy, cellOf, updateFits, queryFits, operationFits, above, climbFits, owedPhase, together};
 use trie::Bounds;
 use trie::Climb;
@@ -115,26 +115,47 @@ pub fn climb_fits(b: Bounds, c: Climb) -> bool
     }
 }
 
+// What one update may make in all, and nothing where the worker has none under way.
+fn due(share: u64, phase: Phase) -> u64
+    ensures { λ r. ⌜ r ≡ dueOf share phase ⌝ }
+{
+    match phase {
+        Phase::Idle => 0,
+        Phase::Read(_) => share,
+        Phase::Swap(_, _) => share,
+        Phase::Refresh(_, _) => share,
+        Phase::Ask(_) => 0,
+        Phase::Find(_, _) => 0,
+        Phase::Rank(_, _, _, _) => 0,
+        Phase::Select(_, _, _, _) => 0,
+    }
+}
+
+fn made(phase: Phase) -> u64
+    ensures { λ r. ⌜ r ≡ madeOf phase ⌝ }
+{
+    match phase {
+        Phase::Idle => 0,
+        Phase::Read(_) => 0,
+        Phase::Swap(_, _) => 0,
+        Phase::Refresh(c, _) => c.made,
+        Phase::Ask(_) => 0,
+        Phase::Find(_, _) => 0,
+        Phase::Rank(_, _, _, _) => 0,
+        Phase::Select(_, _, _, _) => 0,
+    }
+}
+
 // What one worker may still make.
 pub fn owed(share: u64, w: Worker) -> Promised
     ensures { λ r. ⌜ r ≡ owedPhase share (w .phase) ⌝ }
 {
     let phase = w.phase;
-    match phase {
-        Phase::Idle => Promised::Of(0),
-        Phase::Read(_) => Promised::Of(share),
-        Phase::Swap(_, _) => Promised::Of(share),
-        Phase::Refresh(c, _) => {
-            let made = c.made;
-            if made <= share {
-                Promised::Of(share - made)
-            } else {
-                Promised::Damaged
-            }
-        }
-        Phase::Ask(_) => Promised::Of(0),
-        Phase::Find(_, _) => Promised::Of(0),
-        Phase::Rank(_, _, _, _) => Promised::Of(0),
-        Phase::Select(_, _, _, _) => Promised::Of(0),
+    let most = due(share, phase);
+    let so_far = made(phase);
+    if so_far <= most {
+        Promised::Of(most - so_far)
+    } else {
+        Promised::Damaged
     }
 }

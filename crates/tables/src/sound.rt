@@ -5,7 +5,7 @@ ghost use Prim.Native.Nat.{_+_, _≤_};
 ghost use lib.Dec.{leb};
 ghost use Rattle.trie.specs.Choice.{pick};
 ghost use Rattle.trie.specs.Size.{mostCells};
-ghost use Rattle.trie.specs.Sound.{boundsOf, usedSound, leafSound, innerSound, soundAt, soundIn};
+ghost use Rattle.trie.specs.Sound.{boundsOf, usedSound, numbered, leafSound, innerSound, soundAt, soundIn};
 use crate::size::height;
 use crate::words::load;
 use crate::words::room;
@@ -44,45 +44,63 @@ pub fn is_used_sound(b: Bounds) -> bool
     (b.cells <= b.used / 2 + b.used % 2) & (b.used <= b.room)
 }
 
-// No branch hangs on whether the cell is marked: nothing foretells that.
+// No branch hangs on whether the cell is marked, as nothing foretells that: where the count is 0, so are the bounds.
 fn is_leaf(r: Version) -> bool
     ensures { λ t. ⌜ t ≡ leafSound r ⌝ }
 {
+    let count = r.count;
+    if 1 < count {
+        return false;
+    }
     let bare = (r.left.0 == 0) & (r.right.0 == 0);
-    let silent = (r.energy.0 == 0) & (r.level.0 == 0);
-    let within = ((r.count <= 1) & (r.energy.0 <= 1000000000)) & (r.level.0 <= 60);
-    (bare & within) & (silent | (r.count == 1))
+    bare & ((r.energy.0 <= count * 1000000000) & (r.level.0 <= count * 60))
 }
 
 fn is_inner(b: Bounds, r: Version) -> bool
     ensures { λ t. ⌜ t ≡ innerSound b r ⌝ }
 {
-    let left = (1 <= r.left.0) & (r.left.0 <= b.used);
-    if !left {
+    let left = r.left;
+    let right = r.right;
+    if !is_numbered(b, left) {
         return false;
     }
-    let right = (1 <= r.right.0) & (r.right.0 <= b.used);
-    if !right {
+    if !is_numbered(b, right) {
         return false;
     }
     ((r.count <= b.cells) & (r.energy.0 <= b.energy)) & (r.level.0 == 0)
 }
 
-pub fn is_sound(b: Bounds, leaf: bool, v: VersionNumber, r: Version) -> bool
-    ensures { λ t. ⌜ t ≡ soundAt b leaf v r ⌝ }
+fn is_numbered(b: Bounds, v: VersionNumber) -> bool
+    ensures { λ t. ⌜ t ≡ numbered b v ⌝ }
 {
-    let number = (1 <= v.0) & (v.0 <= b.used);
-    if !number {
-        return false;
-    }
+    (1 <= v.0) & (v.0 <= b.used)
+}
+
+fn is_placed(b: Bounds, leaf: bool, r: Version) -> bool
+    ensures { λ t. ⌜ t ≡ pick leaf (leafSound r) (innerSound b r) ⌝ }
+{
     if leaf { is_leaf(r) } else { is_inner(b, r) }
 }
 
-// The version of number v, as it stands in the table.
+pub fn is_sound(b: Bounds, leaf: bool, v: VersionNumber, r: Version) -> bool
+    ensures { λ t. ⌜ t ≡ soundAt b leaf v r ⌝ }
+{
+    if is_numbered(b, v) {
+        is_placed(b, leaf, r)
+    } else {
+        false
+    }
+}
+
+// The version of number v, as it stands in the table; it is read only where there is such a number.
 pub fn is_sound_in(b: Bounds, leaf: bool, versions: &[u64], v: VersionNumber) -> bool
     ensures { λ t. ⌜ t ≡ soundIn b leaf (now (versions .entry)) v ⌝ }
 {
-    is_sound(b, leaf, v, load(versions, v))
+    if is_numbered(b, v) {
+        is_placed(b, leaf, load(versions, v))
+    } else {
+        false
+    }
 }
 
 // Whether a sum stays within a bound, without forming it where it would not.

@@ -8,7 +8,7 @@ use Rattle.listing.proofs.main.Tie as tie
 
 abbrev Inv-loop : tie.InvT-loop
 Inv-loop chunk₀ out₀ nodes₀ versions₀ board₀ history₀ begun₀ turns₀ t15 chunk out nodes versions board history begun turns =
-    (4096 ≡ length chunk) × (39 ≡ length t15)
+    (16384 ≡ length chunk) × (39 ≡ length t15)
 
 abbrev μ-loop : tie.MeasureT-loop
 μ-loop chunk₀ out₀ nodes₀ versions₀ board₀ history₀ begun₀ turns₀ t15 chunk out nodes versions board history begun turns = turns

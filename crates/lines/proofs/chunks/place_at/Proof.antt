@@ -14,20 +14,8 @@ enum-known-k c = search needs
 enum-told : tie.Need-enum-told
 enum-told c = search needs
 
-line-end-requires : tie.Need-line-end-requires
-line-end-requires c κs = search needs
-
-sub-parse : tie.Need-sub-parse
-sub-parse c = search needs
-
-part-parse-start : tie.Need-part-parse-start
-part-parse-start c = search needs
-
-part-parse-end : tie.Need-part-parse-end
-part-parse-end c = search needs
-
-parse-requires : tie.Need-parse-requires
-parse-requires c κs = search needs
+whole-line-requires : tie.Need-whole-line-requires
+whole-line-requires c κs = search needs
 
 returns : tie.Need-returns
 returns c = placed-short (c .before .before .before .before .before .args .chunk .now) (c .before .before .before .before .before .args .from) (c .before .before .before .before .before .args .h) (c .before .before .before .before .before .args .filled) _ _ _ (c .before .before .before .short-step .ensures) (c .before .k .given .1)
@@ -38,14 +26,4 @@ returns-2 c = search needs
 pub place-at-spec : {M : Type 1} → statement M
 place-at-spec =
     tie.close
-    (tie.spec
-    short-step-requires
-    enum-known-k
-    enum-told
-    line-end-requires
-    sub-parse
-    part-parse-start
-    part-parse-end
-    parse-requires
-    returns
-    returns-2)
+    (tie.spec short-step-requires enum-known-k enum-told whole-line-requires returns returns-2)

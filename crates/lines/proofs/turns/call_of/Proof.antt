@@ -2,7 +2,7 @@
 -- Assumes nothing.
 use mathlib.Core.Path.{sym, _∙_}
 use Rattle.lines.specs.Calling.{callOf}
-use Rattle.lines.proofs.Called.{step-open, step-closed, start-open, start-closed, open-few, open-many}
+use Rattle.lines.proofs.Called.{step-refused, start-open, start-closed, open-few, open-many}
 use borrow.Author.Needs.{needs}
 use Rattle.lines.proofs.turns.call_of.Statement.{statement}
 use Rattle.lines.proofs.turns.call_of.Tie as tie
@@ -23,65 +23,53 @@ returns c = c .refused .ensures ∙ rw (c .before .enum-told .given .1)
 words-requires : tie.Need-words-requires
 words-requires c κs = search needs
 
+enum-told-2 : tie.Need-enum-told-2
+enum-told-2 c = search needs
+
+refused-requires-2 : tie.Need-refused-requires-2
+refused-requires-2 c κs = search needs
+
 enum-known-command : tie.Need-enum-known-command
 enum-known-command c = search needs
 
 is-open-requires : tie.Need-is-open-requires
 is-open-requires c κs = search needs
 
-no-operation-requires : tie.Need-no-operation-requires
-no-operation-requires c κs = search needs
-
 call-for-requires : tie.Need-call-for-requires
 call-for-requires c κs = search needs
-
-refused-requires-2 : tie.Need-refused-requires-2
-refused-requires-2 c κs = search needs
-
-enum-known-command-2 : tie.Need-enum-known-command-2
-enum-known-command-2 c = search needs
-
-is-open-requires-2 : tie.Need-is-open-requires-2
-is-open-requires-2 c κs = search needs
-
-call-for-requires-2 : tie.Need-call-for-requires-2
-call-for-requires-2 c κs = search needs
 
 refused-requires-3 : tie.Need-refused-requires-3
 refused-requires-3 c κs = search needs
 
-enum-known-command-3 : tie.Need-enum-known-command-3
-enum-known-command-3 c = search needs
+enum-known-command-2 : tie.Need-enum-known-command-2
+enum-known-command-2 c = search needs
 
 words-requires-2 : tie.Need-words-requires-2
 words-requires-2 c κs = search needs
 
-no-operation-requires-2 : tie.Need-no-operation-requires-2
-no-operation-requires-2 c κs = search needs
+no-operation-requires : tie.Need-no-operation-requires
+no-operation-requires c κs = search needs
 
-call-for-requires-3 : tie.Need-call-for-requires-3
-call-for-requires-3 c κs = search needs
+call-for-requires-2 : tie.Need-call-for-requires-2
+call-for-requires-2 c κs = search needs
 
 refused-requires-4 : tie.Need-refused-requires-4
 refused-requires-4 c κs = search needs
 
 returns-2 : tie.Need-returns-2
-returns-2 c = c .call-for .ensures ∙ step-open _ _ (c .before .before .before .before .before .before .before .before .before .before .before .args .h) (c .before .before .before .before .before .before .before .before .before .line .given .1) _ (c .before .before .before .before .before .command .given .1) (sym (c .before .before .before .is-open .ensures) ∙ c .before .before .if1 .taken) _ _ (c .before .before .before .before .before .before .before .words .ensures) (c .before .no-operation .ensures)
+returns-2 c = c .refused2 .ensures ∙ step-refused _ _ (c .before .before .before .before .before .before .before .args .h) (c .before .before .before .before .before .line .given .1) _ (c .before .enum-told2 .given .1)
 
 returns-3 : tie.Need-returns-3
-returns-3 c = c .refused2 .ensures ∙ step-closed _ _ (c .before .before .before .before .before .before .before .before .before .before .args .h) (c .before .before .before .before .before .before .before .before .line .given .1) _ (c .before .before .before .before .command .given .1) (sym (c .before .before .is-open .ensures) ∙ c .before .if1 .left)
+returns-3 c = c .call-for .ensures ∙ start-open _ _ (c .before .before .before .before .before .before .before .before .before .before .args .h) (c .before .before .before .before .before .before .before .before .line .given .1) _ _ (c .before .before .before .before .command .given .1) (sym (c .before .before .is-open .ensures) ∙ c .before .if1 .taken) _ (c .before .before .before .before .before .before .words .ensures)
 
 returns-4 : tie.Need-returns-4
-returns-4 c = c .call-for2 .ensures ∙ start-open _ _ (c .before .before .before .before .before .before .before .before .before .before .args .h) (c .before .before .before .before .before .before .before .before .line .given .1) _ _ (c .before .before .before .before .command2 .given .1) (sym (c .before .before .is-open2 .ensures) ∙ c .before .if2 .taken) _ (c .before .before .before .before .before .before .words .ensures)
+returns-4 c = c .refused3 .ensures ∙ start-closed _ _ (c .before .before .before .before .before .before .before .before .before .before .args .h) (c .before .before .before .before .before .before .before .before .line .given .1) _ _ (c .before .before .before .before .command .given .1) (sym (c .before .before .is-open .ensures) ∙ c .before .if1 .left)
 
 returns-5 : tie.Need-returns-5
-returns-5 c = c .refused3 .ensures ∙ start-closed _ _ (c .before .before .before .before .before .before .before .before .before .before .args .h) (c .before .before .before .before .before .before .before .before .line .given .1) _ _ (c .before .before .before .before .command2 .given .1) (sym (c .before .before .is-open2 .ensures) ∙ c .before .if2 .left)
+returns-5 c = c .call-for2 .ensures ∙ open-few _ _ (c .before .before .before .before .before .before .before .before .before .before .before .args .h) (c .before .before .before .before .before .before .before .before .before .line .given .1) _ _ _ (c .before .before .before .before .before .command2 .given .1) (c .before .before .before .if2 .taken) _ _ (c .before .before .words2 .ensures) (c .before .no-operation .ensures)
 
 returns-6 : tie.Need-returns-6
-returns-6 c = c .call-for3 .ensures ∙ open-few _ _ (c .before .before .before .before .before .before .before .before .before .before .before .args .h) (c .before .before .before .before .before .before .before .before .before .line .given .1) _ _ _ (c .before .before .before .before .before .command3 .given .1) (c .before .before .before .if3 .taken) _ _ (c .before .before .words2 .ensures) (c .before .no-operation2 .ensures)
-
-returns-7 : tie.Need-returns-7
-returns-7 c = c .refused4 .ensures ∙ open-many _ _ (c .before .before .before .before .before .before .before .before .before .args .h) (c .before .before .before .before .before .before .before .line .given .1) _ _ _ (c .before .before .before .command3 .given .1) (c .before .if3 .left)
+returns-6 c = c .refused4 .ensures ∙ open-many _ _ (c .before .before .before .before .before .before .before .before .before .args .h) (c .before .before .before .before .before .before .before .line .given .1) _ _ _ (c .before .before .before .command2 .given .1) (c .before .if2 .left)
 
 pub call-of-spec : {M : Type 1} → statement M
 call-of-spec =
@@ -92,23 +80,19 @@ call-of-spec =
     refused-requires
     returns
     words-requires
+    enum-told-2
+    refused-requires-2
     enum-known-command
     is-open-requires
-    no-operation-requires
     call-for-requires
-    refused-requires-2
-    enum-known-command-2
-    is-open-requires-2
-    call-for-requires-2
     refused-requires-3
-    enum-known-command-3
+    enum-known-command-2
     words-requires-2
-    no-operation-requires-2
-    call-for-requires-3
+    no-operation-requires
+    call-for-requires-2
     refused-requires-4
     returns-2
     returns-3
     returns-4
     returns-5
-    returns-6
-    returns-7)
+    returns-6)

@@ -25,14 +25,10 @@ use borrow.Rule.Array.Share.{room-take}
 use denote.RattleType.{RattleType}
 use denote.Shadow.{pureI}
 use denote.Memory.{mem, shares}
-use denote.Ref.{RefT}
 use denote.Slice.{sliceVal, MutSlice, ShrSlice, heres, Room, finally, at-slice, codedHoleys}
 use denote.Lend.{Held, lends-slice, slice-back, lends-shr-slice}
 use denote.Index.{row, whole-out, whole-in, opens-slice, closes-slice}
-
--- a slice reference at (b, o), under δ, at the list l
-abbrev pub at-list : {X : Type 0} → ℕ → ℕ → GName → List X → RefT (List X)
-at-list b o δ l = record { ptr = (b, o); name = δ; now = l }
+use Rattle.board.proofs.Shared.{at-list}
 
 module _ (R : RattleType) (κ : Lft) (p : Share) (γ : GName) (b o : ℕ) where
   -- the holder's own borrow, open

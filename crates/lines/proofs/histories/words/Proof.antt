@@ -1,9 +1,9 @@
--- `lines::turns::words` meets its contract.
+-- `lines::histories::words` meets its contract.
 -- Assumes nothing.
 use borrow.Author.Tests.{lt-leb, le-leb}
 use borrow.Author.Needs.{needs}
-use Rattle.lines.proofs.turns.words.Statement.{statement}
-use Rattle.lines.proofs.turns.words.Tie as tie
+use Rattle.lines.proofs.histories.words.Statement.{statement}
+use Rattle.lines.proofs.histories.words.Tie as tie
 
 mul-result : tie.Need-mul-result
 mul-result c = search needs

@@ -1,0 +1,80 @@
+-- `board::planning::plan_refresh` meets its contract.
+-- Assumes nothing.
+use mathlib.Core.Path.{refl}
+use Rattle.board.proofs.Plans.{not-refreshed, plan-within}
+use borrow.Author.Needs.{needs}
+use Rattle.board.proofs.planning.plan_refresh.Statement.{statement}
+use Rattle.board.proofs.planning.plan_refresh.Tie as tie
+
+enum-told : tie.Need-enum-told
+enum-told c = search needs
+
+enum-told-2 : tie.Need-enum-told-2
+enum-told-2 c = search needs
+
+enum-told-3 : tie.Need-enum-told-3
+enum-told-3 c = search needs
+
+enum-known-phase : tie.Need-enum-known-phase
+enum-known-phase c = search needs
+
+refresh-requires : tie.Need-refresh-requires
+refresh-requires c κs = search needs
+
+enum-told-4 : tie.Need-enum-told-4
+enum-told-4 c = search needs
+
+enum-told-5 : tie.Need-enum-told-5
+enum-told-5 c = search needs
+
+enum-told-6 : tie.Need-enum-told-6
+enum-told-6 c = search needs
+
+enum-told-7 : tie.Need-enum-told-7
+enum-told-7 c = search needs
+
+returns : tie.Need-returns
+returns c = search needs
+
+returns-2 : tie.Need-returns-2
+returns-2 c = not-refreshed (c .before .before .before .before .args .b) (c .before .before .before .before .args .w .phase) (c .before .before .before .before .args .nodes .now) (c .before .before .before .before .args .versions .now) _ (c .enum-told2 .given .1) (c .before .before .before .before .pre .1) refl
+
+returns-3 : tie.Need-returns-3
+returns-3 c = not-refreshed (c .before .before .before .before .args .b) (c .before .before .before .before .args .w .phase) (c .before .before .before .before .args .nodes .now) (c .before .before .before .before .args .versions .now) _ (c .enum-told3 .given .1) (c .before .before .before .before .pre .1) refl
+
+returns-4 : tie.Need-returns-4
+returns-4 c = plan-within (c .before .before .before .before .before .before .args .b) (c .before .before .before .before .before .before .args .w .phase) (c .before .before .before .before .before .before .args .nodes .now) (c .before .before .before .before .before .before .args .versions .now) _ (c .before .before .phase .given .1) _ (c .before .before .before .before .before .before .pre .0) (c .refresh .ensures)
+
+returns-5 : tie.Need-returns-5
+returns-5 c = not-refreshed (c .before .before .before .before .args .b) (c .before .before .before .before .args .w .phase) (c .before .before .before .before .args .nodes .now) (c .before .before .before .before .args .versions .now) _ (c .enum-told4 .given .1) (c .before .before .before .before .pre .1) refl
+
+returns-6 : tie.Need-returns-6
+returns-6 c = not-refreshed (c .before .before .before .before .args .b) (c .before .before .before .before .args .w .phase) (c .before .before .before .before .args .nodes .now) (c .before .before .before .before .args .versions .now) _ (c .enum-told5 .given .1) (c .before .before .before .before .pre .1) refl
+
+returns-7 : tie.Need-returns-7
+returns-7 c = not-refreshed (c .before .before .before .before .args .b) (c .before .before .before .before .args .w .phase) (c .before .before .before .before .args .nodes .now) (c .before .before .before .before .args .versions .now) _ (c .enum-told6 .given .1) (c .before .before .before .before .pre .1) refl
+
+returns-8 : tie.Need-returns-8
+returns-8 c = not-refreshed (c .before .before .before .before .args .b) (c .before .before .before .before .args .w .phase) (c .before .before .before .before .args .nodes .now) (c .before .before .before .before .args .versions .now) _ (c .enum-told7 .given .1) (c .before .before .before .before .pre .1) refl
+
+pub plan-refresh-spec : {M : Type 1} → statement M
+plan-refresh-spec =
+    tie.close
+    (tie.spec
+    enum-told
+    enum-told-2
+    enum-told-3
+    enum-known-phase
+    refresh-requires
+    enum-told-4
+    enum-told-5
+    enum-told-6
+    enum-told-7
+    returns
+    returns-2
+    returns-3
+    returns-4
+    returns-5
+    returns-6
+    returns-7
+    returns-8)
