@@ -20,7 +20,7 @@ use Rattle.trie.specs.Size.{tallest}
 use Rattle.trie.specs.Tables.{versionAt}
 use Rattle.trie.specs.Sound.{soundAt, soundIn}
 use Rattle.trie.specs.Asking.{lookOf, lastAt, seen, passedOf, reachedOf, atDepth}
-use Rattle.tables.specs.Tests.{and-left}
+use Rattle.trie.specs.SizeLaws.{and-first}
 
 seen-holds : (t : Bool) (f g : Fork) → seen t f ≡ Seen.Sound g → t ≡ true
 seen-holds true f g e = refl
@@ -30,7 +30,7 @@ seen-holds false f g e = absurd (let z : _≡_ {A = ℕ} 0 1 = cc in omega arith
 pub look-depth : (b : Bounds) (s : Standing) (versions : List ℕ) (r : Seen) (f : Fork) → r ≡ lookOf b s versions → r ≡ Seen.Sound f → s .depth < b .height
 unfolding lookOf
 look-depth b s versions r f e q =
-    ltb-true (s .depth) (b .height) (and-left (ltb (s .depth) (b .height)) _ (seen-holds _ _ f (sym e ∙ q)))
+    ltb-true (s .depth) (b .height) (and-first (ltb (s .depth) (b .height)) _ (seen-holds _ _ f (sym e ∙ q)))
 
 -- with what was loaded in place of what the table has
 module _ (b : Bounds) (s : Standing) (versions : List ℕ) (at left right : Version) (ea : at ≡ versionAt versions (s .version)) (el : left ≡ versionAt versions (at .left)) (er : right ≡ versionAt versions (at .right))

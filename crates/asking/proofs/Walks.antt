@@ -21,7 +21,7 @@ use Rattle.trie.specs.Choice.{pick}
 use Rattle.trie.specs.Size.{tallest}
 use Rattle.trie.specs.Leaf.{sure}
 use Rattle.trie.specs.Asking.{lookOf, toward, towards, turnsRight, passedOf, reachedOf, rankNext, rankSeen, rankOf, selectSeen, selectOf}
-use Rattle.tables.specs.Tests.{and-left, and-right}
+use Rattle.trie.specs.SizeLaws.{and-first, and-second}
 use Rattle.asking.proofs.Looks.{look-depth, select-small}
 
 of-case : (t : Bool) (x n : ℕ) → pick t (Reached.Of x) Reached.Past ≡ Reached.Of n → t ≡ true
@@ -116,11 +116,11 @@ module _ (b : Bounds) (j : ℕ) (s : Standing) (x : NodeNumber) (passed : ℕ) (
       goes = chosen-is true (not-false (chosen up) q)
 
       pub select-passed : passed ≤ j
-      select-passed = omega (arith, ltb-true passed j (and-left (ltb passed j) (leb passed (b .cells)) (and-left (ltb passed j && leb passed (b .cells)) (eqb (x .0 / 2 ^ s .depth) 1) goes)))
+      select-passed = omega (arith, ltb-true passed j (and-first (ltb passed j) (leb passed (b .cells)) (and-first (ltb passed j && leb passed (b .cells)) (eqb (x .0 / 2 ^ s .depth) 1) goes)))
 
       pub select-near : (r : Seen) (f : Fork) → r ≡ lookOf b s versions → r ≡ Seen.Sound f → x .0 < 4611686018427387904
       select-near r f er is =
-          select-small b (s .depth) (x .0) h (look-depth b s versions r f er is) (and-right (ltb passed j && leb passed (b .cells)) (eqb (x .0 / 2 ^ s .depth) 1) goes)
+          select-small b (s .depth) (x .0) h (look-depth b s versions r f er is) (and-second (ltb passed j && leb passed (b .cells)) (eqb (x .0 / 2 ^ s .depth) 1) goes)
 
       pub select-by : (r r′ : Seen) (p : Plan) → r ≡ lookOf b s versions → r ≡ r′ → p ≡ selectSeen b j (s .depth) (x .0) passed r′ → p ≡ selected
       unfolding selectOf

@@ -1,7 +1,8 @@
 -- What the walks of several functions use, and the laws by which they end.
--- The first eight say nothing of this crate, and can be copied as they stand.
+-- The first nine say nothing of this crate, and can be copied as they stand.
 pub mod Callee
 pub mod Arms
+pub mod Bodies
 pub mod Variants
 pub mod GivenUp
 pub mod Shared

@@ -4,13 +4,11 @@ ghost use mathlib.Core.Path.{_≡_};
 ghost use Prim.Native.Nat.{_≤_};
 ghost use lib.ListN.{length};
 ghost use Rattle.trie.specs.Values.{Ok, acceptedOf};
-ghost use Rattle.trie.specs.Record.{idle};
 ghost use Rattle.trie.specs.Opening.{Opened, openBoard};
 ghost use Rattle.trie.specs.Calls.{After, after, state, openOf};
 ghost use Rattle.board.specs.Opening.{openMannedOf, restingOf};
 use crate::judging::is_manned;
 use trie::Accepted;
-use trie::Phase;
 use trie::Worker;
 
 // The tables are opened only where the board has a record for each worker: refusals 1, 2 and 3.
@@ -37,17 +35,11 @@ fn resting(accepted: Accepted, w: u64) -> usize
     }
 }
 
-fn rested() -> Worker
-    ensures { λ r. ⌜ r ≡ idle ⌝ }
-{
-    Worker { phase: Phase::Idle }
-}
-
 fn rest(w: usize, board: &mut [Worker])
     requires { ⌜ w ≤ length (now board) ⌝ }
     ensures { λ _. ⌜ now (board .exit) ≡ openBoard w (now (board .entry)) ⌝ }
 {
-    let idle = rested();
+    let idle = tables::rested();
     let mut i = 0;
     while i < w {
         board[i] = idle;

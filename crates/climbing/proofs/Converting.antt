@@ -19,13 +19,13 @@ use Rattle.trie.specs.declared.Update.{Update}
 use Rattle.trie.specs.Tables.{version}
 use Rattle.trie.specs.Record.{updateFits}
 use Rattle.trie.specs.Leaf.{wanted}
-use Rattle.tables.specs.Tests.{and-right}
+use Rattle.trie.specs.SizeLaws.{and-second}
 
 module _ (n : ℕ) (u : Update) (k : ℕ) (level : Level) (answer : Converted) (fits : updateFits n u ≡ true) (is : u ≡ Update.Insert k level) (told : toldOf answer ≡ convertOf (level .0)) where
   gives-energy : toldOf answer ≡ gives (energyOf (level .0))
   gives-energy =
       let f : updateFits n (Update.Insert k level) ≡ true = subst (λ (x : Update). updateFits n x ≡ true) is fits in
-      told ∙ converts (level .0) (leb-true (level .0) loudest (and-right (ltb k n) (leb (level .0) loudest) f))
+      told ∙ converts (level .0) (leb-true (level .0) loudest (and-second (ltb k n) (leb (level .0) loudest) f))
 
   pub new-marked : (energy : Energy) (r : Version) → answer ≡ Converted.Is energy → r ≡ version 0 0 1 (energy .0) (level .0) → r ≡ wanted u
   new-marked energy r e q =

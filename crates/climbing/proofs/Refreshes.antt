@@ -20,7 +20,8 @@ use Rattle.trie.specs.Tables.{version, versionAt}
 use Rattle.trie.specs.Record.{updateFits, leafOf, above, climbFits}
 use Rattle.trie.specs.Leaf.{sure}
 use Rattle.trie.specs.Refreshing.{sumOf, placeSum, joinOf, refreshHeld, refreshOf}
-use Rattle.tables.specs.Tests.{and-left, and-right, fits-cell}
+use Rattle.trie.specs.SizeLaws.{and-first, and-second}
+use Rattle.tables.specs.Tests.{fits-cell}
 
 above-le : (d y x : ℕ) → above d y x ≡ true → x ≤ y
 unfolding above
@@ -40,11 +41,11 @@ pub climb-node : (b : Bounds) (c : Climb) (t : Bool) → t ≡ (leb (b .cells) m
 unfolding climbFits
 climb-node b c t e q =
     let all = sym e ∙ not-false t q in
-    let few = leb-true (b .cells) mostCells (and-left (leb (b .cells) mostCells) (climbFits b c) all) in
-    let climb = and-right (leb (b .cells) mostCells) (climbFits b c) all in
-    let fits : updateFits (b .cells) (c .update) ≡ true = and-left (updateFits (b .cells) (c .update)) _ climb in
-    let rest = and-right (updateFits (b .cells) (c .update)) (above (b .height) (leafOf b (c .update)) (c .node .0) && leb (c .made) (b .share)) climb in
-    let up = above-le (b .height) (leafOf b (c .update)) (c .node .0) (and-left (above (b .height) (leafOf b (c .update)) (c .node .0)) _ rest) in
+    let few = leb-true (b .cells) mostCells (and-first (leb (b .cells) mostCells) (climbFits b c) all) in
+    let climb = and-second (leb (b .cells) mostCells) (climbFits b c) all in
+    let fits : updateFits (b .cells) (c .update) ≡ true = and-first (updateFits (b .cells) (c .update)) _ climb in
+    let rest = and-second (updateFits (b .cells) (c .update)) (above (b .height) (leafOf b (c .update)) (c .node .0) && leb (c .made) (b .share)) climb in
+    let up = above-le (b .height) (leafOf b (c .update)) (c .node .0) (and-first (above (b .height) (leafOf b (c .update)) (c .node .0)) _ rest) in
     omega (arith, fits-cell (b .cells) (c .update) fits)
 
 module _ (b : Bounds) (c : Climb) (s : Held) (nodes versions : List ℕ) (t : Bool) where

@@ -4,13 +4,13 @@ use mathlib.Core.Path.{_≡_, refl, sym, ap, _∙_}
 use mathlib.Core.Bool.{Bool, true, false}
 use mathlib.Core.List.{List, [], _∷_, _++_, append-assoc, append-nil}
 use Prim.Native.Nat.{ℕ, suc, _+_, _-_, _≤_, _<_}
-use native.Mathlib.Numerals.{add-one}
 use native.Mathlib.Omega.{arith}
 use borrow.Author.Tests.{eq-eqb, ne-eqb, lt-ltb, le-leb, lt-leb, leb-true, leb-false, ltb-true, ltb-false}
 use lib.Dec.{eqb, ltb, leb}
 use lib.ListN.{length, take, drop, getD, length-append, take-append-drop, drop-of-length-le, length-drop, length-take}
-use lib.Seq.{paste, drop-cons, take-suc, getD-drop, drop-drop, take-length, take-paste, drop-paste, length-take-le}
+use lib.Seq.{paste, take-suc, getD-drop, drop-drop, take-length, take-paste, drop-paste, length-take-le}
 use Rattle.grammar.specs.Grammar.{lineOf}
+use Rattle.grammar.proofs.Laws.{first}
 use Rattle.trie.specs.Choice.{pick}
 use Rattle.lines.specs.declared.Begun.{Begun}
 use Rattle.lines.specs.Text.{Put}
@@ -21,9 +21,6 @@ use Rattle.lines.specs.Feeding.{plain, grown, between, Ends}
 
 pub not-both : false ≡ true → ⊥
 not-both e = let z : _≡_ {A = ℕ} 0 1 = ap (λ (b : Bool). pick b 1 0) e in omega arith
-
-first : (s : List ℕ) (i : ℕ) → i < length s → drop i s ≡ getD s i 0 ∷ drop (i + 1) s
-first s i h = rw (add-one, drop-cons s i 0)
 
 -- ---- bytes that are no newline
 

@@ -1,4 +1,3 @@
-mod Branches
 mod Rows
 mod Arrays
 pub mod Texts

@@ -10,18 +10,11 @@ use lib.Count.{ones}
 use Rattle.decibel.specs.Conversion.{loudest}
 use Rattle.trie.specs.declared.Update.{Update}
 use Rattle.trie.specs.Size.{mostCells, allowed}
+use Rattle.trie.specs.SizeLaws.{and-first, and-second}
 use Rattle.trie.specs.Record.{cellOf, updateFits}
 
-pub and-left : (a b : Bool) → (a && b) ≡ true → a ≡ true
-and-left true b e = refl
-and-left false b e = e
-
-pub and-right : (a b : Bool) → (a && b) ≡ true → b ≡ true
-and-right true b e = e
-and-right false b e = absurd (let z : _≡_ {A = ℕ} 0 1 = cc in omega arith)
-
 pub fits-cell : (n : ℕ) (u : Update) → updateFits n u ≡ true → cellOf u < n
-fits-cell n (Update.Insert k l) e = ltb-true k n (and-left (ltb k n) (leb (l .0) loudest) e)
+fits-cell n (Update.Insert k l) e = ltb-true k n (and-first (ltb k n) (leb (l .0) loudest) e)
 fits-cell n (Update.Delete k) e = ltb-true k n e
 
 -- a number of cells that is allowed
@@ -32,5 +25,5 @@ pub record Allowed (n : ℕ) : Type 0 where
 pub allowed-range : (n : ℕ) → allowed n ≡ true → Allowed n
 unfolding allowed
 allowed-range n e =
-    let both : (leb 2 n && leb n mostCells) ≡ true = and-right (eqb (ones n) 1) (leb 2 n && leb n mostCells) e in
-    record { low = leb-true 2 n (and-left (leb 2 n) (leb n mostCells) both); high = leb-true n mostCells (and-right (leb 2 n) (leb n mostCells) both) }
+    let both : (leb 2 n && leb n mostCells) ≡ true = and-second (eqb (ones n) 1) (leb 2 n && leb n mostCells) e in
+    record { low = leb-true 2 n (and-first (leb 2 n) (leb n mostCells) both); high = leb-true n mostCells (and-second (leb 2 n) (leb n mostCells) both) }

@@ -57,7 +57,7 @@ use Rattle.trie.proofs.Progress as Pr
 use Rattle.trie.proofs.Version as Ve
 use Rattle.trie.proofs.VersionNumber as Vn
 use Rattle.board.proofs.Callee.{contractOf, asks, asks-none, calls-told, calls-told-last, calls-plain-last}
-use Rattle.board.proofs.Arms.{arm-of, ty-at}
+use Rattle.board.proofs.Bodies.{arm-of, ty-at}
 use Rattle.board.proofs.Variants.{tag-of, field-of}
 use Rattle.board.proofs.GivenUp.{gives-up}
 use Rattle.board.proofs.Shared.{at-list}

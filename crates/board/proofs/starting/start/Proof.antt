@@ -62,6 +62,7 @@ use Rattle.board.specs.Promising.{mostShare}
 use Rattle.board.specs.PromisingLaws.{share-small}
 use Rattle.board.specs.JudgingLaws.{judgedOf, seated, start-seated, start-refused}
 use Rattle.board.proofs.Callee.{contractOf, Last, leaves, asks-none, calls-told, calls-plain, calls-plain-last}
+use Rattle.board.proofs.Tests.{is-true, is-false}
 use Rattle.board.proofs.Shared.{at-list, calls-shared}
 use Rattle.board.proofs.Elem.{R, vals, tells, makes, lawful, bytes, step-fits, begun-makes, begun-lawful, accepted-makes, accepted-lawful, promised-makes, promised-lawful, operation-makes, operation-lawful}
 use Rattle.board.proofs.judging.judge as judge
@@ -104,14 +105,6 @@ stayed = (stay-none (λ _. u64) yes, (stay-none (λ _. u64) yes, (stay-none (λ 
 -- the theorems of the functions that it calls
 abbrev Knows : {M : Type 1} (𝓤 : URA M) (H : Heap 𝓤) (A : Atoms 𝓤) (mem : Memory → SProp 𝓤) (run : Routine → Fun 𝓤) → Calls 𝓤 H → Type 1
 Knows 𝓤 H A mem run C = Triple 𝓤 (C #judge) (contractOf 𝓤 H A judge.ended (judge.clauses 𝓤 H A mem run)) × Triple 𝓤 (C #share) (contractOf 𝓤 H A share.ended (share.clauses 𝓤 H A mem run)) × Triple 𝓤 (C #promised) (contractOf 𝓤 H A promised.ended (promised.clauses 𝓤 H A mem run)) × Triple 𝓤 (C #start-record) (contractOf 𝓤 H A start-record.ended (start-record.clauses 𝓤 H A mem run)) × Triple 𝓤 (C #worker-after) (contractOf 𝓤 H A worker-after.ended (worker-after.clauses 𝓤 H A mem run)) × Triple 𝓤 (C #accepted-after) (contractOf 𝓤 H A accepted-after.ended (accepted-after.clauses 𝓤 H A mem run)) × Triple 𝓤 (C #refuse) (contractOf 𝓤 H A refuse.ended (refuse.clauses 𝓤 H A mem run))
-
-is-true : (t : Bool) → T t → t ≡ true
-is-true true _ = refl
-is-true false z = absurd z
-
-is-false : (t : Bool) → T (not t) → t ≡ false
-is-false true z = absurd z
-is-false false _ = refl
 
 -- an operation's machine values
 abbrev ops : Operation → List Val

@@ -54,7 +54,7 @@ use Rattle.trie.proofs.Plan as Pl
 use Rattle.trie.proofs.Progress as Pr
 use Rattle.board.specs.Planning.{refreshing, atLeaf}
 use Rattle.board.proofs.Callee.{contractOf, asks, calls-told, calls-plain}
-use Rattle.board.proofs.Arms.{then-of, ty-at}
+use Rattle.board.proofs.Bodies.{then-of, ty-at}
 use Rattle.board.proofs.GivenUp.{gives-up}
 use Rattle.board.proofs.Shared.{at-list}
 use Rattle.board.proofs.Lends.{shares-on, ceases-on}

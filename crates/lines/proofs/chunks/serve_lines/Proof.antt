@@ -61,7 +61,8 @@ use Rattle.lines.proofs.History.Laws as Hi′
 use Rattle.lines.proofs.Place as Pl
 use Rattle.lines.proofs.Run as Ru
 use Rattle.lines.proofs.Turn as Tu
-use Rattle.lines.proofs.Branches.{is-true, is-false, rest-of, then-of, else-of}
+use Rattle.board.proofs.Bodies.{rest-of, then-of, else-of}
+use Rattle.board.proofs.Tests.{is-true, is-false}
 use Rattle.board.proofs.Callee.{contractOf, asks, asks-none, calls-told, calls-told-last, calls-plain}
 use Rattle.board.proofs.GivenUp.{gives-up}
 use Rattle.board.proofs.Shared.{at-list}

@@ -57,7 +57,7 @@ use Rattle.lines.proofs.History as Hi
 use Rattle.lines.proofs.History.Laws as Hi′
 use Rattle.lines.proofs.Run as Ru
 use Rattle.lines.proofs.Run.Laws as Ru′
-use Rattle.lines.proofs.Branches.{rest-of}
+use Rattle.board.proofs.Bodies.{rest-of}
 use Rattle.board.proofs.Callee.{contractOf, asks, asks-none, calls-told, calls-told-last, calls-plain}
 use Rattle.lines.proofs.Feeds.{not-both}
 use Rattle.board.proofs.GivenUp.{gives-up}

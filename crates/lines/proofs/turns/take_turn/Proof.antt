@@ -61,7 +61,8 @@ use Rattle.lines.proofs.Call as Ca
 use Rattle.lines.proofs.History as Hi
 use Rattle.lines.proofs.History.Laws as Hi′
 use Rattle.lines.proofs.Turn as Tu
-use Rattle.lines.proofs.Branches.{is-true, is-false, then-of}
+use Rattle.board.proofs.Bodies.{then-of}
+use Rattle.board.proofs.Tests.{is-true, is-false}
 use Rattle.board.proofs.Callee.{contractOf, asks-none, calls-told, calls-plain}
 use Rattle.board.proofs.GivenUp.{gives-up}
 use Rattle.board.proofs.Shared.{at-list}

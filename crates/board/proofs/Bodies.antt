@@ -1,18 +1,8 @@
--- The parts of a body that a walk is cut at: the rest of a sequence, the arms of a branch, and what a branch's test tells. It says nothing of the crate, and can be copied as it stands.
+-- The parts of a body that a walk is cut at: the rest of a sequence, the arms of a branch or of a match, and the types of its locals. It says nothing of the crate, and can be copied as it stands.
 -- Assumes nothing.
-use mathlib.Core.Path.{_≡_, refl}
-use mathlib.Core.Bool.{Bool, true, false, not}
+use mathlib.Core.List.{List, [], _∷_}
 use Prim.Native.Nat.{ℕ, zero, suc}
-use lib.Dec.{T}
-use mir.Syntax.{Body, skip, seq, assign, block, cond, switch, exit, return, call, loop}
-
-pub is-true : (t : Bool) → T t → t ≡ true
-is-true true _ = refl
-is-true false z = absurd z
-
-pub is-false : (t : Bool) → T (not t) → t ≡ false
-is-false true z = absurd z
-is-false false _ = refl
+use mir.Syntax.{Body, skip, seq, assign, block, loop, cond, switch, exit, return, call, Arms, arm, default, noDefault, Local, local, Ty, tyBool}
 
 -- the rest of a sequence, k statements on
 abbrev pub rest-of : ℕ → Body → Body
@@ -27,6 +17,25 @@ rest-of (suc k) (switch c arms) = skip
 rest-of (suc k) (exit n) = skip
 rest-of (suc k) return = skip
 rest-of (suc k) (call f xs d) = skip
+
+abbrev arm-in : Arms → ℕ → Body
+arm-in (arm ks b arms) zero = b
+arm-in (arm ks b arms) (suc k) = arm-in arms k
+arm-in (default b) k = b
+arm-in noDefault k = skip
+
+-- an arm of a match, by its position
+abbrev pub arm-of : Body → ℕ → Body
+arm-of skip k = skip
+arm-of (seq a b) k = skip
+arm-of (assign p v) k = skip
+arm-of (block b) k = skip
+arm-of (loop b) k = skip
+arm-of (cond c a b) k = skip
+arm-of (switch c arms) k = arm-in arms k
+arm-of (exit n) k = skip
+arm-of return k = skip
+arm-of (call f xs d) k = skip
 
 -- the first arm of a branch
 abbrev pub then-of : Body → Body
@@ -53,3 +62,9 @@ else-of (switch c arms) = skip
 else-of (exit n) = skip
 else-of return = skip
 else-of (call f xs d) = skip
+
+-- the type of a local, by its number
+abbrev pub ty-at : List Local → ℕ → Ty
+ty-at [] n = tyBool
+ty-at (local t home ∷ ls) zero = t
+ty-at (local t home ∷ ls) (suc n) = ty-at ls n
