@@ -1,5 +1,5 @@
 -- What the walks of several functions use, and the laws by which they end.
--- The first nine say nothing of this crate, and can be copied as they stand.
+-- The first eight say nothing of this crate, and can be copied as they stand.
 pub mod Callee
 pub mod Arms
 pub mod Bodies
@@ -8,7 +8,6 @@ pub mod GivenUp
 pub mod Shared
 pub mod Lends
 pub mod Elements
-pub mod Arrays
 pub mod Elem
 pub mod Moving
 pub mod Tests

@@ -2,9 +2,7 @@ pub mod Judging
 pub mod Planning
 pub mod Promising
 pub mod Opening
-pub mod Rows
 pub mod JudgingLaws
 pub mod PromisingLaws
 pub mod OpeningLaws
-pub mod RowsLaws
 pub mod Decided

@@ -5,16 +5,10 @@ mod judging;
 mod opening;
 mod planning;
 mod promising;
-mod rows;
 mod starting;
 mod stepping;
 
 pub use opening::open;
-pub use rows::AcceptedRow;
-pub use rows::SteppedRow;
-pub use rows::open_row;
-pub use rows::start_row;
-pub use rows::step_row;
 pub use starting::start;
 pub use stepping::step;
 pub use stepping::step_in_place;

@@ -33,7 +33,7 @@ use trie::Progress;
 use trie::Worker;
 
 // No line is begun.
-pub fn blank() -> Begun
+fn blank() -> Begun
     ensures { λ r. ⌜ r ≡ record { bytes = zeros; held = 0 } ⌝ }
 {
     Begun {

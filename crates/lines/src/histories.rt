@@ -1,20 +1,9 @@
 // The N, W and V of the history that is under way; zeros before the first accepted open.
 // Only an accepted open changes them.
 ghost use mathlib.Core.Path.{_≡_};
-ghost use Rattle.lines.specs.Watch.{history, opened};
+ghost use Rattle.lines.specs.Watch.{opened};
 ghost use Rattle.lines.specs.Calling.{wordsOf};
 use crate::History;
-
-// Before the first accepted open.
-pub fn fresh() -> History
-    ensures { λ r. ⌜ r ≡ history 0 0 0 ⌝ }
-{
-    History {
-        cells: 0,
-        workers: 0,
-        versions: 0,
-    }
-}
 
 pub(crate) fn is_open(h: History) -> bool
     ensures { λ r. ⌜ r ≡ opened h ⌝ }

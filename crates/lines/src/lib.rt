@@ -5,11 +5,9 @@ mod histories;
 mod text;
 mod turns;
 
-pub use chunks::blank;
 pub use chunks::finish;
 pub use chunks::serve;
 use grammar::Line;
-pub use histories::fresh;
 use trie::Accepted;
 use trie::Operation;
 use trie::Progress;

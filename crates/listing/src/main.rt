@@ -1,7 +1,34 @@
 // Runs a listing: reads a chunk of standard input, has it served, and writes the answers.
 // Nothing is kept but the line that is begun, the history and its tables, so the input may be of any length.
+ghost use mathlib.Core.Path.{_≡_};
+ghost use Rattle.lines.specs.Watch.{history};
+ghost use Rattle.lines.specs.Chunks.{zeros};
+use lines::Begun;
+use lines::History;
+use lines::Served;
 use trie::Phase;
 use trie::Worker;
+
+// Before the first accepted open.
+fn fresh() -> History
+    ensures { λ r. ⌜ r ≡ history 0 0 0 ⌝ }
+{
+    History {
+        cells: 0,
+        workers: 0,
+        versions: 0,
+    }
+}
+
+// No line is begun.
+fn blank() -> Begun
+    ensures { λ r. ⌜ r ≡ record { bytes = zeros; held = 0 } ⌝ }
+{
+    Begun {
+        bytes: [0u8; 40],
+        held: 0,
+    }
+}
 
 fn main() {
     let mut chunk = [0u8; 16384];
@@ -9,8 +36,8 @@ fn main() {
     let mut nodes = [0u64; 32];
     let mut versions = [0u64; 5000];
     let mut board = [Worker { phase: Phase::Idle }; 16];
-    let mut history = lines::fresh();
-    let mut begun = lines::blank();
+    let mut history = fresh();
+    let mut begun = blank();
     let mut turns = u64::MAX;
     while turns > 0 {
         turns -= 1;
@@ -20,13 +47,7 @@ fn main() {
             return;
         }
         let n = io::count(got, &chunk);
-        if n == 0 {
-            let last = lines::finish(begun, history, board, &mut nodes, &mut versions, &mut out);
-            let filled = last.filled;
-            write(&out, filled);
-            return;
-        }
-        let served = lines::serve(
+        let served = serve(
             &chunk,
             n,
             begun,
@@ -43,7 +64,27 @@ fn main() {
         if !write(&out, filled) {
             return;
         }
+        if n == 0 {
+            return;
+        }
     }
+}
+
+// The bytes that were read are served; where there are none, the input has ended.
+fn serve(
+    chunk: &[u8; 16384],
+    n: usize,
+    begun: Begun,
+    history: History,
+    board: [Worker; 16],
+    nodes: &mut [u64; 32],
+    versions: &mut [u64; 5000],
+    out: &mut [u8; 1048576],
+) -> Served {
+    if n == 0 {
+        return lines::finish(begun, history, board, nodes, versions, out);
+    }
+    lines::serve(chunk, n, begun, history, board, nodes, versions, out)
 }
 
 // Writes the answers; where that fails, says so.

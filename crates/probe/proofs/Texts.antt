@@ -11,7 +11,7 @@ use Rattle.trie.specs.declared.Worker.{Worker}
 use Rattle.trie.specs.Record.{idle}
 use Rattle.decibel.specs.Told.{Told}
 use Rattle.trie.specs.Calls.{State, state, After, after}
-use Rattle.board.specs.Rows.{seated}
+use Rattle.rows.specs.Rows.{seated}
 use Rattle.lines.specs.Text.{Put, newline}
 use Rattle.lines.proofs.Texts.{put-both, put-as}
 use Rattle.probe.specs.Fields.{fieldsOf}

@@ -104,7 +104,7 @@ fn open(
     ensures { λ r. ⌜ Put (acceptedText (openOf n w (state (now (nodes .entry)) (now (versions .entry)) (take seats row)))) at (now (out .entry)) (now (out .exit)) r ⌝ }
     ensures { λ r. ⌜ r ≤ at + 16384 ⌝ }
 {
-    let opened = board::open_row(n, w, seats, row, nodes, versions);
+    let opened = rows::open_row(n, w, seats, row, nodes, versions);
     let accepted = opened.accepted;
     let after = opened.row;
     let a = put_accepted(accepted, out, at);
@@ -127,7 +127,7 @@ fn start(
     ensures { λ r. ⌜ Put (acceptedText (startOf n w i operation (state (now (nodes .entry)) (now (versions .entry)) (take seats row)))) at (now (out .entry)) (now (out .exit)) r ⌝ }
     ensures { λ r. ⌜ r ≤ at + 16384 ⌝ }
 {
-    let started = board::start_row(n, w, i, operation, seats, row, nodes, versions);
+    let started = rows::start_row(n, w, i, operation, seats, row, nodes, versions);
     let accepted = started.accepted;
     let after = started.row;
     let a = put_accepted(accepted, out, at);
@@ -149,7 +149,7 @@ fn step(
     ensures { λ r. ⌜ Put (courseText (stepOf n w i (state (now (nodes .entry)) (now (versions .entry)) (take seats row)))) at (now (out .entry)) (now (out .exit)) r ⌝ }
     ensures { λ r. ⌜ r ≤ at + 16384 ⌝ }
 {
-    let stepped = board::step_row(n, w, i, seats, row, nodes, versions);
+    let stepped = rows::step_row(n, w, i, seats, row, nodes, versions);
     let progress = stepped.progress;
     let after = stepped.row;
     let a = put_progress(progress, out, at);

@@ -96,7 +96,7 @@ fn end_line() {
 }
 
 fn open(row: [Worker; 20], nodes: &mut [u64], versions: &mut [u64]) -> [Worker; 20] {
-    let opened = board::open_row(2, 16, 20, row, nodes, versions);
+    let opened = rows::open_row(2, 16, 20, row, nodes, versions);
     let accepted = opened.accepted;
     write_accepted(accepted);
     let after = opened.row;
@@ -106,7 +106,7 @@ fn open(row: [Worker; 20], nodes: &mut [u64], versions: &mut [u64]) -> [Worker; 
 }
 
 fn start(row: [Worker; 20], i: u64, nodes: &[u64], versions: &[u64]) -> [Worker; 20] {
-    let started = board::start_row(
+    let started = rows::start_row(
         2,
         16,
         i,
@@ -125,7 +125,7 @@ fn start(row: [Worker; 20], i: u64, nodes: &[u64], versions: &[u64]) -> [Worker;
 }
 
 fn step(row: [Worker; 20], i: u64, nodes: &mut [u64], versions: &mut [u64]) -> [Worker; 20] {
-    let stepped = board::step_row(2, 16, i, 20, row, nodes, versions);
+    let stepped = rows::step_row(2, 16, i, 20, row, nodes, versions);
     let progress = stepped.progress;
     write_progress(progress);
     let after = stepped.row;

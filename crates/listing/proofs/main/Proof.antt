@@ -7,11 +7,11 @@ use Rattle.listing.proofs.main.Statement.{statement}
 use Rattle.listing.proofs.main.Tie as tie
 
 abbrev Inv-loop : tie.InvT-loop
-Inv-loop chunk₀ out₀ nodes₀ versions₀ board₀ history₀ begun₀ turns₀ t15 chunk out nodes versions board history begun turns =
-    (16384 ≡ length chunk) × (39 ≡ length t15)
+Inv-loop chunk₀ out₀ nodes₀ versions₀ board₀ history₀ begun₀ turns₀ t13 chunk out nodes versions board history begun turns =
+    (16384 ≡ length chunk) × (39 ≡ length t13)
 
 abbrev μ-loop : tie.MeasureT-loop
-μ-loop chunk₀ out₀ nodes₀ versions₀ board₀ history₀ begun₀ turns₀ t15 chunk out nodes versions board history begun turns = turns
+μ-loop chunk₀ out₀ nodes₀ versions₀ board₀ history₀ begun₀ turns₀ t13 chunk out nodes versions board history begun turns = turns
 
 fresh-requires : tie.Need-fresh-requires Inv-loop μ-loop
 fresh-requires c κs = search needs
@@ -46,20 +46,14 @@ slice-aggregate-count c = search needs
 count-requires : tie.Need-count-requires Inv-loop μ-loop
 count-requires c κs = search needs
 
-finish-requires : tie.Need-finish-requires Inv-loop μ-loop
-finish-requires c κs = search needs
+serve-requires : tie.Need-serve-requires Inv-loop μ-loop
+serve-requires c κs = search needs
 
 write-requires : tie.Need-write-requires Inv-loop μ-loop
 write-requires c κs = search needs
 
 returns-2 : tie.Need-returns-2 Inv-loop μ-loop
 returns-2 c = search needs
-
-serve-requires : tie.Need-serve-requires Inv-loop μ-loop
-serve-requires c κs = search needs
-
-write-requires-2 : tie.Need-write-requires-2 Inv-loop μ-loop
-write-requires-2 c κs = search needs
 
 returns-3 : tie.Need-returns-3 Inv-loop μ-loop
 returns-3 c = search needs
@@ -90,11 +84,9 @@ main-spec =
     returns
     slice-aggregate-count
     count-requires
-    finish-requires
+    serve-requires
     write-requires
     returns-2
-    serve-requires
-    write-requires-2
     returns-3
     loop-less
     loop-again

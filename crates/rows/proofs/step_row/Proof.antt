@@ -1,4 +1,4 @@
--- `board::rows::step_row` meets its contract: a walk of its MIR, by hand. The first records of the local row are lent to `step` and taken back before the others, and the tables are given up to the callee.
+-- `rows::step_row` meets its contract: a walk of its MIR, by hand. The first records of the local row are lent to `step` and taken back before the others, and the tables are given up to the callee.
 -- Its own parameters are plain data and tables: its callers need no walk. Assumes nothing.
 use mathlib.Core.Path.{_≡_, refl, sym, subst, ap, _∙_}
 use Prim.Native.Nat.{ℕ, _<_, _≤_, _^_}
@@ -43,31 +43,31 @@ use Rattle.trie.specs.declared.Progress.{Progress}
 use Rattle.trie.specs.Values.{progressOf}
 use Rattle.trie.specs.Calls.{after, state, stepOf}
 use Rattle.trie.proofs.Progress as Pr
 use Rattle.board.proofs.Callee.{contractOf, asks-none, calls-told, calls-plain}
 use Rattle.board.proofs.Shared.{at-list}
 use Rattle.board.proofs.Elem.{R, vals, tells, makes, lawful, progress-makes, progress-lawful}
-use Rattle.board.specs.declared.rows.SteppedRow.{SteppedRow}
-use Rattle.board.proofs.rows.SteppedRow as St
-use Rattle.board.proofs.rows.SteppedRow.Laws as St′
-use Rattle.board.specs.Rows.{lentOf, boardOf, seated}
-use Rattle.board.specs.RowsLaws.{lent-most, seated-lent}
-use Rattle.board.proofs.Arrays.{lends-part, takes-part}
-use Rattle.board.proofs.rows.lent as lent
-use Rattle.board.proofs.rows.lent.Symbol as lent-def
-use Rattle.board.proofs.rows.lent.Symbol.{name as #lent}
-use Rattle.board.proofs.rows.lent.Met as lent-thm
-use Rattle.board.proofs.stepping.step as step
-use Rattle.board.proofs.stepping.step.Symbol as step-def
-use Rattle.board.proofs.stepping.step.Symbol.{name as #step}
-use Rattle.board.proofs.stepping.step.Met as step-thm
-use Rattle.board.proofs.rows.stepped_row as stepped-row
-use Rattle.board.proofs.rows.stepped_row.Symbol as stepped-row-def
-use Rattle.board.proofs.rows.stepped_row.Symbol.{name as #stepped-row}
-use Rattle.board.proofs.rows.stepped_row.Met as stepped-row-thm
-use Rattle.board.proofs.rows.step_row.Key.{name as #step-row}
-use Rattle.board.proofs.rows.step_row as f
-use Rattle.board.proofs.rows.step_row.Statement as stated
-use Rattle.board.proofs.rows.step_row.Code as code
+use Rattle.rows.specs.declared.SteppedRow.{SteppedRow}
+use Rattle.rows.proofs.SteppedRow as St
+use Rattle.rows.proofs.SteppedRow.Laws as St′
+use Rattle.rows.specs.Rows.{lentOf, boardOf, seated}
+use Rattle.rows.specs.RowsLaws.{lent-most, seated-lent}
+use Rattle.rows.proofs.Arrays.{lends-part, takes-part}
+use Rattle.rows.proofs.lent as lent
+use Rattle.rows.proofs.lent.Symbol as lent-def
+use Rattle.rows.proofs.lent.Symbol.{name as #lent}
+use Rattle.rows.proofs.lent.Met as lent-thm
+use Rattle.board.proofs.step as step
+use Rattle.board.proofs.step.Symbol as step-def
+use Rattle.board.proofs.step.Symbol.{name as #step}
+use Rattle.board.proofs.step.Met as step-thm
+use Rattle.rows.proofs.stepped_row as stepped-row
+use Rattle.rows.proofs.stepped_row.Symbol as stepped-row-def
+use Rattle.rows.proofs.stepped_row.Symbol.{name as #stepped-row}
+use Rattle.rows.proofs.stepped_row.Met as stepped-row-thm
+use Rattle.rows.proofs.step_row.Key.{name as #step-row}
+use Rattle.rows.proofs.step_row as f
+use Rattle.rows.proofs.step_row.Statement as stated
+use Rattle.rows.proofs.step_row.Code as code
 
 abbrev All : RattleType
 All = Array R 20
@@ -188,7 +188,7 @@ step-row-spec 𝓤 H 𝓜 𝓖 𝓡 =
     entered 𝓤 H (tripleOf 𝓤 H (𝓖 .A) f.signature (f.spec 𝓤 H (𝓖 .A) (𝓜 .mem) (𝓡 .run)))
     (tables 𝓤 H 𝓜 𝓡 code.env .C) (tables 𝓤 H 𝓜 𝓡 code.env .Λ) #step-row code.function (code.unfolded 𝓤 H 𝓜 𝓡)
     (f-meets 𝓤 H (𝓖 .A) (givenOf 𝓤 H 𝓜 𝓖) (𝓜 .mem) (𝓡 .run) (tablesOf 𝓤 H 𝓜 (tables 𝓤 H 𝓜 𝓡 code.env)) (
-      cited 𝓤 H (contractOf 𝓤 H (𝓖 .A) step.ended (step.clauses 𝓤 H (𝓖 .A) (𝓜 .mem) (𝓡 .run))) 𝓜 𝓡 code.env #step step-def.routine code.calls-board·stepping·step (step-thm.met 𝓤 H 𝓜 𝓖 𝓡),
-      cited 𝓤 H (contractOf 𝓤 H (𝓖 .A) stepped-row.ended (stepped-row.clauses 𝓤 H (𝓖 .A) (𝓜 .mem) (𝓡 .run))) 𝓜 𝓡 code.env #stepped-row stepped-row-def.routine code.calls-board·rows·stepped-row (stepped-row-thm.met 𝓤 H 𝓜 𝓖 𝓡),
-      cited 𝓤 H (contractOf 𝓤 H (𝓖 .A) lent.ended (lent.clauses 𝓤 H (𝓖 .A) (𝓜 .mem) (𝓡 .run))) 𝓜 𝓡 code.env #lent lent-def.routine code.calls-board·rows·lent (lent-thm.met 𝓤 H 𝓜 𝓖 𝓡),
+      cited 𝓤 H (contractOf 𝓤 H (𝓖 .A) step.ended (step.clauses 𝓤 H (𝓖 .A) (𝓜 .mem) (𝓡 .run))) 𝓜 𝓡 code.env #step step-def.routine code.calls-board·step (step-thm.met 𝓤 H 𝓜 𝓖 𝓡),
+      cited 𝓤 H (contractOf 𝓤 H (𝓖 .A) stepped-row.ended (stepped-row.clauses 𝓤 H (𝓖 .A) (𝓜 .mem) (𝓡 .run))) 𝓜 𝓡 code.env #stepped-row stepped-row-def.routine code.calls-rows·stepped-row (stepped-row-thm.met 𝓤 H 𝓜 𝓖 𝓡),
+      cited 𝓤 H (contractOf 𝓤 H (𝓖 .A) lent.ended (lent.clauses 𝓤 H (𝓖 .A) (𝓜 .mem) (𝓡 .run))) 𝓜 𝓡 code.env #lent lent-def.routine code.calls-rows·lent (lent-thm.met 𝓤 H 𝓜 𝓖 𝓡),
     ))

@@ -12,7 +12,7 @@ use lib.Seq.{take-all}
 use Rattle.trie.specs.declared.Worker.{Worker}
 use Rattle.trie.specs.Choice.{pick}
 use Rattle.trie.specs.Calls.{After, after, state}
-use Rattle.board.specs.Rows.{lentOf, boardOf, seated}
+use Rattle.rows.specs.Rows.{lentOf, boardOf, seated}
 
 pub lent-most : (seats : ℕ) → lentOf seats ≤ 20
 unfolding lentOf

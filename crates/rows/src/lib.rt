@@ -3,10 +3,10 @@
 ghost use mathlib.Core.Path.{_≡_};
 ghost use Rattle.trie.specs.Values.{Ok, Course, acceptedOf, progressOf};
 ghost use Rattle.trie.specs.Calls.{After, after, state, openOf, startOf, stepOf};
-ghost use Rattle.board.specs.Rows.{lentOf, boardOf, seated};
-use crate::opening::open;
-use crate::starting::start;
-use crate::stepping::step;
+ghost use Rattle.rows.specs.Rows.{lentOf, boardOf, seated};
+use board::open;
+use board::start;
+use board::step;
 use trie::Accepted;
 use trie::Operation;
 use trie::Progress;

@@ -1,9 +1,9 @@
--- `board::rows::lent` meets its contract.
+-- `rows::lent` meets its contract.
 -- Assumes nothing.
 use borrow.Author.Tests.{le-leb, lt-leb}
-use Rattle.board.specs.Rows.{lentOf}
-use Rattle.board.proofs.rows.lent.Statement.{statement}
-use Rattle.board.proofs.rows.lent.Tie as tie
+use Rattle.rows.specs.Rows.{lentOf}
+use Rattle.rows.proofs.lent.Statement.{statement}
+use Rattle.rows.proofs.lent.Tie as tie
 
 returns : tie.Need-returns
 unfolding lentOf

@@ -1,4 +1,4 @@
--- `board::rows::open_row` meets its contract: a walk of its MIR, by hand. The first records of the local row are lent to `open` and taken back before the others, and the tables are given up to the callee.
+-- `rows::open_row` meets its contract: a walk of its MIR, by hand. The first records of the local row are lent to `open` and taken back before the others, and the tables are given up to the callee.
 -- Its own parameters are plain data and tables: its callers need no walk. Assumes nothing.
 use mathlib.Core.Path.{_≡_, refl, sym, subst, ap, _∙_}
 use Prim.Native.Nat.{ℕ, _<_, _≤_, _^_}
@@ -43,31 +43,31 @@ use Rattle.trie.specs.declared.Accepted.{Accepted}
 use Rattle.trie.specs.Values.{acceptedOf}
 use Rattle.trie.specs.Calls.{after, state, openOf}
 use Rattle.trie.proofs.Accepted as Ac
 use Rattle.board.proofs.Callee.{contractOf, asks-none, calls-told, calls-plain}
 use Rattle.board.proofs.Shared.{at-list}
 use Rattle.board.proofs.Elem.{R, vals, tells, makes, lawful, accepted-makes, accepted-lawful}
-use Rattle.board.specs.declared.rows.AcceptedRow.{AcceptedRow}
-use Rattle.board.proofs.rows.AcceptedRow as St
-use Rattle.board.proofs.rows.AcceptedRow.Laws as St′
-use Rattle.board.specs.Rows.{lentOf, boardOf, seated}
-use Rattle.board.specs.RowsLaws.{lent-most, seated-lent}
-use Rattle.board.proofs.Arrays.{lends-part, takes-part}
-use Rattle.board.proofs.rows.lent as lent
-use Rattle.board.proofs.rows.lent.Symbol as lent-def
-use Rattle.board.proofs.rows.lent.Symbol.{name as #lent}
-use Rattle.board.proofs.rows.lent.Met as lent-thm
-use Rattle.board.proofs.opening.open as open-board
-use Rattle.board.proofs.opening.open.Symbol as open-board-def
-use Rattle.board.proofs.opening.open.Symbol.{name as #open-board}
-use Rattle.board.proofs.opening.open.Met as open-board-thm
-use Rattle.board.proofs.rows.accepted_row as accepted-row
-use Rattle.board.proofs.rows.accepted_row.Symbol as accepted-row-def
-use Rattle.board.proofs.rows.accepted_row.Symbol.{name as #accepted-row}
-use Rattle.board.proofs.rows.accepted_row.Met as accepted-row-thm
-use Rattle.board.proofs.rows.open_row.Key.{name as #open-row}
-use Rattle.board.proofs.rows.open_row as f
-use Rattle.board.proofs.rows.open_row.Statement as stated
-use Rattle.board.proofs.rows.open_row.Code as code
+use Rattle.rows.specs.declared.AcceptedRow.{AcceptedRow}
+use Rattle.rows.proofs.AcceptedRow as St
+use Rattle.rows.proofs.AcceptedRow.Laws as St′
+use Rattle.rows.specs.Rows.{lentOf, boardOf, seated}
+use Rattle.rows.specs.RowsLaws.{lent-most, seated-lent}
+use Rattle.rows.proofs.Arrays.{lends-part, takes-part}
+use Rattle.rows.proofs.lent as lent
+use Rattle.rows.proofs.lent.Symbol as lent-def
+use Rattle.rows.proofs.lent.Symbol.{name as #lent}
+use Rattle.rows.proofs.lent.Met as lent-thm
+use Rattle.board.proofs.open as open-board
+use Rattle.board.proofs.open.Symbol as open-board-def
+use Rattle.board.proofs.open.Symbol.{name as #open-board}
+use Rattle.board.proofs.open.Met as open-board-thm
+use Rattle.rows.proofs.accepted_row as accepted-row
+use Rattle.rows.proofs.accepted_row.Symbol as accepted-row-def
+use Rattle.rows.proofs.accepted_row.Symbol.{name as #accepted-row}
+use Rattle.rows.proofs.accepted_row.Met as accepted-row-thm
+use Rattle.rows.proofs.open_row.Key.{name as #open-row}
+use Rattle.rows.proofs.open_row as f
+use Rattle.rows.proofs.open_row.Statement as stated
+use Rattle.rows.proofs.open_row.Code as code
 
 abbrev All : RattleType
 All = Array R 20
@@ -188,7 +188,7 @@ open-row-spec 𝓤 H 𝓜 𝓖 𝓡 =
     entered 𝓤 H (tripleOf 𝓤 H (𝓖 .A) f.signature (f.spec 𝓤 H (𝓖 .A) (𝓜 .mem) (𝓡 .run)))
     (tables 𝓤 H 𝓜 𝓡 code.env .C) (tables 𝓤 H 𝓜 𝓡 code.env .Λ) #open-row code.function (code.unfolded 𝓤 H 𝓜 𝓡)
     (f-meets 𝓤 H (𝓖 .A) (givenOf 𝓤 H 𝓜 𝓖) (𝓜 .mem) (𝓡 .run) (tablesOf 𝓤 H 𝓜 (tables 𝓤 H 𝓜 𝓡 code.env)) (
-      cited 𝓤 H (contractOf 𝓤 H (𝓖 .A) open-board.ended (open-board.clauses 𝓤 H (𝓖 .A) (𝓜 .mem) (𝓡 .run))) 𝓜 𝓡 code.env #open-board open-board-def.routine code.calls-board·opening·open (open-board-thm.met 𝓤 H 𝓜 𝓖 𝓡),
-      cited 𝓤 H (contractOf 𝓤 H (𝓖 .A) accepted-row.ended (accepted-row.clauses 𝓤 H (𝓖 .A) (𝓜 .mem) (𝓡 .run))) 𝓜 𝓡 code.env #accepted-row accepted-row-def.routine code.calls-board·rows·accepted-row (accepted-row-thm.met 𝓤 H 𝓜 𝓖 𝓡),
-      cited 𝓤 H (contractOf 𝓤 H (𝓖 .A) lent.ended (lent.clauses 𝓤 H (𝓖 .A) (𝓜 .mem) (𝓡 .run))) 𝓜 𝓡 code.env #lent lent-def.routine code.calls-board·rows·lent (lent-thm.met 𝓤 H 𝓜 𝓖 𝓡),
+      cited 𝓤 H (contractOf 𝓤 H (𝓖 .A) open-board.ended (open-board.clauses 𝓤 H (𝓖 .A) (𝓜 .mem) (𝓡 .run))) 𝓜 𝓡 code.env #open-board open-board-def.routine code.calls-board·open (open-board-thm.met 𝓤 H 𝓜 𝓖 𝓡),
+      cited 𝓤 H (contractOf 𝓤 H (𝓖 .A) accepted-row.ended (accepted-row.clauses 𝓤 H (𝓖 .A) (𝓜 .mem) (𝓡 .run))) 𝓜 𝓡 code.env #accepted-row accepted-row-def.routine code.calls-rows·accepted-row (accepted-row-thm.met 𝓤 H 𝓜 𝓖 𝓡),
+      cited 𝓤 H (contractOf 𝓤 H (𝓖 .A) lent.ended (lent.clauses 𝓤 H (𝓖 .A) (𝓜 .mem) (𝓡 .run))) 𝓜 𝓡 code.env #lent lent-def.routine code.calls-rows·lent (lent-thm.met 𝓤 H 𝓜 𝓖 𝓡),
     ))
