@@ -89,9 +89,9 @@ pub fn step(
         return refuse(refusal);
     }
     let at = i as usize;
-    let damage = judge_record(n, board[at], nodes, versions);
-    if damage != 0 {
-        return refuse(damage);
+    let by_record = judge_record(n, board[at], nodes, versions);
+    if by_record != 0 {
+        return refuse(by_record);
     }
     turn(
         tables::bounds(n, nodes, versions),

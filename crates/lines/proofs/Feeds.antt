@@ -13,7 +13,7 @@ use Rattle.grammar.specs.Grammar.{lineOf}
 use Rattle.grammar.proofs.Laws.{first}
 use Rattle.trie.specs.Choice.{pick}
 use Rattle.lines.specs.declared.Begun.{Begun}
-use Rattle.lines.specs.Text.{Put}
+use Rattle.grammar.specs.Text.{Put}
 use Rattle.lines.specs.Watch.{Watch}
 use Rattle.lines.specs.Turns.{Answered, lineTurn}
 use Rattle.lines.specs.Chunks.{longest, Part, upto, over, more, lineAt, listing, ended, servedOf, zeros, partOf, begunOf}

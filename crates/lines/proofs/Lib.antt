@@ -1,6 +1,5 @@
 mod Rows
 mod Arrays
-pub mod Texts
 mod Called
 mod Taken
 pub mod Feeds

@@ -22,7 +22,7 @@ use Rattle.lines.specs.declared.Place.{Place}
 use Rattle.lines.specs.declared.Run.{Run}
 use Rattle.lines.specs.declared.Turn.{Turn}
 use Rattle.lines.specs.declared.chunks.Short.{Short}
-use Rattle.lines.specs.Text.{courseText}
+use Rattle.grammar.specs.Text.{courseText}
 use Rattle.lines.specs.Watch.{Watch, watch, opened, Roomy}
 use Rattle.lines.specs.Turns.{answered, lineTurn, turned}
 use Rattle.lines.specs.Calling.{wordsOf, stepping}

@@ -1,4 +1,4 @@
-pub mod Text
+pub mod Replies
 pub mod Watch
 pub mod Turns
 pub mod Calling

@@ -18,7 +18,8 @@ use Rattle.lines.specs.declared.Place.{Place}
 use Rattle.lines.specs.declared.Run.{Run}
 use Rattle.lines.specs.declared.Turn.{Turn}
 use Rattle.lines.specs.declared.chunks.Short.{Short}
-use Rattle.lines.specs.Text.{Put, courseText, replyText}
+use Rattle.grammar.specs.Text.{Put, courseText}
+use Rattle.lines.specs.Replies.{replyText}
 use Rattle.lines.specs.Watch.{Watch, opened}
 use Rattle.lines.specs.Chunks.{lineAt, listing, servedOf, partOf}
 use Rattle.lines.specs.Feeding.{grown, between, Ends, widest, before}

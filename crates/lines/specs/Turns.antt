@@ -13,7 +13,8 @@ use Rattle.trie.specs.Choice.{pick}
 use Rattle.trie.specs.Values.{Ok, Course}
 use Rattle.trie.specs.Calls.{After, openOf, startOf, stepOf}
 use Rattle.lines.specs.declared.Turn.{Turn}
-use Rattle.lines.specs.Text.{refusedText, acceptedText, courseText, replyText}
+use Rattle.grammar.specs.Text.{refusedText, acceptedText, courseText}
+use Rattle.lines.specs.Replies.{replyText}
 use Rattle.lines.specs.Watch.{Watch, watch, history, mostCells, mostVersions, opened, lent, returned}
 
 pub record Answered : Type 0 where

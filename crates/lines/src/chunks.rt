@@ -6,7 +6,7 @@ ghost use mathlib.Core.List.{List};
 ghost use Prim.Native.Nat.{ℕ, _+_, _*_, _^_, _≤_, _<_};
 ghost use lib.Dec.{ltb};
 ghost use lib.ListN.{length, take, drop};
-ghost use Rattle.lines.specs.Text.{replyText};
+ghost use Rattle.lines.specs.Replies.{replyText};
 ghost use Rattle.trie.specs.Choice.{pick};
 ghost use Rattle.lines.specs.declared.Begun.{Begun};
 ghost use Rattle.lines.specs.Watch.{Watch, watch, opened, Roomy};

@@ -12,8 +12,8 @@ use Rattle.trie.specs.Record.{idle}
 use Rattle.decibel.specs.Told.{Told}
 use Rattle.trie.specs.Calls.{State, state, After, after}
 use Rattle.rows.specs.Rows.{seated}
-use Rattle.lines.specs.Text.{Put, newline}
-use Rattle.lines.proofs.Texts.{put-both, put-as}
+use Rattle.grammar.specs.Text.{Put, newline}
+use Rattle.grammar.proofs.Texts.{put-both, put-as}
 use Rattle.probe.specs.Fields.{fieldsOf}
 use Rattle.probe.specs.Text.{spaced, wordsText, tableText, recordsText, boardText, colon, stateText}
 

@@ -7,7 +7,7 @@ use Rattle.decibel.specs.Told.{Told, refused, gives}
 use Rattle.trie.specs.declared.Worker.{Worker}
 use Rattle.trie.specs.Values.{Ok, ok, Course, on, done}
 use Rattle.trie.specs.Calls.{State, After}
-use Rattle.lines.specs.Text.{decimal, newline, okWord, onWord, doneWord, refusedWord, valueText}
+use Rattle.grammar.specs.Text.{decimal, newline, okWord, onWord, doneWord, refusedWord, valueText}
 use Rattle.probe.specs.Fields.{fieldsOf}
 
 -- what open and start tell

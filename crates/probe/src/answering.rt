@@ -4,7 +4,7 @@ ghost use mathlib.Core.Path.{_≡_};
 ghost use Prim.Native.Nat.{_+_, _*_, _≤_};
 ghost use lib.ListN.{length, take};
 ghost use Rattle.trie.specs.Calls.{state, openOf, startOf, stepOf};
-ghost use Rattle.lines.specs.Text.{Put};
+ghost use Rattle.grammar.specs.Text.{Put};
 ghost use Rattle.probe.specs.Text.{wordsText, tableText, recordsText, boardText, stateText, acceptedText, courseText, notText};
 ghost use Rattle.probe.specs.Answering.{callText};
 use crate::asking::Call;

@@ -5,7 +5,7 @@ ghost use mathlib.Core.Path.{_≡_};
 ghost use Prim.Native.Nat.{_+_, _*_, _≤_};
 ghost use lib.ListN.{length, take, drop};
 ghost use lib.Seq.{paste};
-ghost use Rattle.lines.specs.Text.{Put};
+ghost use Rattle.grammar.specs.Text.{Put};
 ghost use Rattle.probe.specs.Text.{notText};
 ghost use Rattle.probe.specs.Cases.{lengthAt, Sized, Formed, rowFrom, rowed, formedText};
 use crate::answering::answer;

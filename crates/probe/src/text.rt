@@ -4,7 +4,7 @@ ghost use mathlib.Core.List.{_++_};
 ghost use Prim.Native.Nat.{_+_, _≤_};
 ghost use lib.ListN.{length};
 ghost use Rattle.trie.specs.Values.{valueOf, sums, acceptedOf, progressOf};
-ghost use Rattle.lines.specs.Text.{Put, decimal, refusedWord, doneWord, valueText};
+ghost use Rattle.grammar.specs.Text.{Put, decimal, refusedWord, doneWord, valueText};
 ghost use Rattle.probe.specs.Text.{spaced, acceptedWords, courseWords};
 use trie::Accepted;
 use trie::Answer;

@@ -5,7 +5,7 @@ use native.Mathlib.Omega.{arith}
 use lib.ListN.{length}
 use lib.Seq.{length-take-le}
 use Rattle.lines.specs.Chunks.{begunOf}
-use Rattle.lines.proofs.Texts.{put-both}
+use Rattle.grammar.proofs.Texts.{put-both}
 use Rattle.lines.proofs.Feeds.{keeps, keeps-none, keeps-over, begun-put}
 use borrow.Author.Needs.{needs}
 use Rattle.lines.proofs.chunks.keep.Statement.{statement}

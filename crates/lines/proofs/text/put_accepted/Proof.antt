@@ -1,7 +1,7 @@
 -- `lines::text::put_accepted` meets its contract.
 -- Assumes nothing.
 use native.Mathlib.Omega.{arith}
-use Rattle.lines.specs.Text.{acceptedText}
+use Rattle.grammar.specs.Text.{acceptedText}
 use borrow.Author.Needs.{needs}
 use Rattle.lines.proofs.text.put_accepted.Statement.{statement}
 use Rattle.lines.proofs.text.put_accepted.Tie as tie

@@ -1,7 +1,7 @@
 -- `lines::text::put_answer` meets its contract.
 -- Assumes nothing.
 use native.Mathlib.Omega.{arith}
-use Rattle.lines.specs.Text.{doneText, valueText}
+use Rattle.grammar.specs.Text.{doneText, valueText}
 use borrow.Author.Needs.{needs}
 use Rattle.lines.proofs.text.put_answer.Statement.{statement}
 use Rattle.lines.proofs.text.put_answer.Tie as tie

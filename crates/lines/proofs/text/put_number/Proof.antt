@@ -1,7 +1,7 @@
 -- `lines::text::put_number` meets its contract.
 -- Assumes nothing.
 use native.Mathlib.Omega.{arith}
-use Rattle.lines.proofs.Texts.{put-both, put-as, number-text}
+use Rattle.grammar.proofs.Texts.{put-both, put-as, number-text}
 use borrow.Author.Needs.{needs}
 use Rattle.lines.proofs.text.put_number.Statement.{statement}
 use Rattle.lines.proofs.text.put_number.Tie as tie

@@ -1,7 +1,7 @@
 -- `lines::text::put_progress` meets its contract.
 -- Assumes nothing.
 use native.Mathlib.Omega.{arith}
-use Rattle.lines.specs.Text.{courseText}
+use Rattle.grammar.specs.Text.{courseText}
 use borrow.Author.Needs.{needs}
 use Rattle.lines.proofs.text.put_progress.Statement.{statement}
 use Rattle.lines.proofs.text.put_progress.Tie as tie

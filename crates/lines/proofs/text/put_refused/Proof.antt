@@ -1,7 +1,7 @@
 -- `lines::text::put_refused` meets its contract.
 -- Assumes nothing.
 use native.Mathlib.Omega.{arith}
-use Rattle.lines.proofs.Texts.{put-both, put-as, refused-text}
+use Rattle.grammar.proofs.Texts.{put-both, put-as, refused-text}
 use borrow.Author.Needs.{needs}
 use Rattle.lines.proofs.text.put_refused.Statement.{statement}
 use Rattle.lines.proofs.text.put_refused.Tie as tie

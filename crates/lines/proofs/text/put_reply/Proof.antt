@@ -1,6 +1,6 @@
 -- `lines::text::put_reply` meets its contract.
 -- Assumes nothing.
-use Rattle.lines.specs.Text.{replyText}
+use Rattle.lines.specs.Replies.{replyText}
 use borrow.Author.Needs.{needs}
 use Rattle.lines.proofs.text.put_reply.Statement.{statement}
 use Rattle.lines.proofs.text.put_reply.Tie as tie

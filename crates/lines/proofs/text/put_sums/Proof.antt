@@ -1,7 +1,7 @@
 -- `lines::text::put_sums` meets its contract.
 -- Assumes nothing.
 use native.Mathlib.Omega.{arith}
-use Rattle.lines.proofs.Texts.{put-both, put-as, sums-text}
+use Rattle.grammar.proofs.Texts.{put-both, put-as, sums-text}
 use borrow.Author.Needs.{needs}
 use Rattle.lines.proofs.text.put_sums.Statement.{statement}
 use Rattle.lines.proofs.text.put_sums.Tie as tie

@@ -3,7 +3,7 @@
 use native.Mathlib.Omega.{arith}
 use mathlib.Core.Path.{_≡_}
 use lib.ListN.{length}
-use Rattle.lines.proofs.Texts.{put-both, put-as}
+use Rattle.grammar.proofs.Texts.{put-both, put-as}
 use Rattle.probe.proofs.Texts.{board-text}
 use borrow.Author.Needs.{needs}
 use Rattle.probe.proofs.answering.put_board.Statement.{statement}

@@ -5,8 +5,8 @@ use Prim.Native.Nat.{_≤_, _+_, _*_, _-_}
 use native.Mathlib.Omega.{arith}
 use lib.ListN.{length, take}
 use borrow.Author.Needs.{needs}
-use Rattle.lines.specs.Text.{Put}
-use Rattle.lines.proofs.Texts.{put-as}
+use Rattle.grammar.specs.Text.{Put}
+use Rattle.grammar.proofs.Texts.{put-as}
 use Rattle.probe.specs.Text.{wordsText, recordsText}
 use Rattle.probe.proofs.Texts.{put-none, put-record}
 use Rattle.probe.proofs.answering.put_records.Statement.{statement}

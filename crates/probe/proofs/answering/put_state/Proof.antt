@@ -1,7 +1,7 @@
 -- `probe::answering::put_state` meets its contract.
 -- Assumes nothing.
 use native.Mathlib.Omega.{arith}
-use Rattle.lines.proofs.Texts.{put-both, put-as}
+use Rattle.grammar.proofs.Texts.{put-both, put-as}
 use Rattle.probe.proofs.Texts.{state-text}
 use borrow.Author.Needs.{needs}
 use Rattle.probe.proofs.answering.put_state.Statement.{statement}

@@ -1,7 +1,7 @@
 -- `probe::answering::put_table` meets its contract.
 -- Assumes nothing.
 use native.Mathlib.Omega.{arith}
-use Rattle.lines.proofs.Texts.{put-both}
+use Rattle.grammar.proofs.Texts.{put-both}
 use Rattle.probe.specs.Text.{tableText}
 use borrow.Author.Needs.{needs}
 use Rattle.probe.proofs.answering.put_table.Statement.{statement}

@@ -6,8 +6,8 @@ use native.Mathlib.Omega.{arith}
 use lib.ListN.{length, take}
 use lib.Seq.{take-length}
 use borrow.Author.Needs.{needs}
-use Rattle.lines.specs.Text.{Put}
-use Rattle.lines.proofs.Texts.{put-as}
+use Rattle.grammar.specs.Text.{Put}
+use Rattle.grammar.proofs.Texts.{put-as}
 use Rattle.probe.specs.Text.{wordsText}
 use Rattle.probe.proofs.Texts.{put-none, put-word}
 use Rattle.probe.proofs.answering.put_words.Statement.{statement}

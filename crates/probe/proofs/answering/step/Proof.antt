@@ -5,7 +5,7 @@ use mathlib.Core.Path.{_≡_, _∙_}
 use lib.ListN.{length, take}
 use lib.Seq.{length-take-le}
 use Rattle.trie.specs.Calls.{state, stepOf}
-use Rattle.lines.proofs.Texts.{put-both, put-as}
+use Rattle.grammar.proofs.Texts.{put-both, put-as}
 use Rattle.probe.specs.Text.{courseWords, courseText}
 use Rattle.probe.proofs.Kept.{step-kept}
 use Rattle.probe.proofs.Texts.{seated-text}

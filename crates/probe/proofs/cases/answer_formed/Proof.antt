@@ -4,7 +4,7 @@ use native.Mathlib.Omega.{arith}
 use mathlib.Core.Path.{sym, ap, _∙_}
 use lib.ListN.{take, replicate, length-replicate}
 use lib.Seq.{length-take-le}
-use Rattle.lines.proofs.Texts.{put-as}
+use Rattle.grammar.proofs.Texts.{put-as}
 use Rattle.probe.proofs.Rows.{table-copied, short}
 use Rattle.probe.proofs.Sizes.{formed-not, formed-is}
 use borrow.Author.Tests.{not-true, not-false}

@@ -2,7 +2,7 @@
 -- Assumes nothing.
 use native.Mathlib.Omega.{arith}
 use mathlib.Core.Path.{sym, ap, _∙_}
-use Rattle.lines.proofs.Texts.{put-as}
+use Rattle.grammar.proofs.Texts.{put-as}
 use Rattle.probe.specs.Cases.{formedText}
 use Rattle.probe.proofs.Sizes.{sized-one}
 use borrow.Author.Needs.{needs}

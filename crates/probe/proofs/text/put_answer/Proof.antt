@@ -1,7 +1,7 @@
 -- `probe::text::put_answer` meets its contract.
 -- Assumes nothing.
 use native.Mathlib.Omega.{arith}
-use Rattle.lines.specs.Text.{valueText}
+use Rattle.grammar.specs.Text.{valueText}
 use borrow.Author.Needs.{needs}
 use Rattle.probe.proofs.text.put_answer.Statement.{statement}
 use Rattle.probe.proofs.text.put_answer.Tie as tie

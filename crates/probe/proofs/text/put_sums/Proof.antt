@@ -2,8 +2,8 @@
 -- Assumes nothing.
 use native.Mathlib.Omega.{arith}
 use mathlib.Core.List.{append-assoc}
-use Rattle.lines.specs.Text.{decimal, doneWord, valueText}
-use Rattle.lines.proofs.Texts.{put-both, put-as}
+use Rattle.grammar.specs.Text.{decimal, doneWord, valueText}
+use Rattle.grammar.proofs.Texts.{put-both, put-as}
 use Rattle.probe.specs.Text.{spaced}
 use borrow.Author.Needs.{needs}
 use Rattle.probe.proofs.text.put_sums.Statement.{statement}

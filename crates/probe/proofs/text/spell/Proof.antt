@@ -3,7 +3,7 @@
 use mathlib.Core.Path.{ap, _∙_}
 use native.Mathlib.Omega.{arith}
 use mathlib.Core.List.{_++_}
-use Rattle.lines.proofs.Texts.{twenty, decimal-is, put-both, put-as}
+use Rattle.grammar.proofs.Texts.{twenty, decimal-is, put-both, put-as}
 use borrow.Author.Needs.{needs}
 use Rattle.probe.proofs.text.spell.Statement.{statement}
 use Rattle.probe.proofs.text.spell.Tie as tie

@@ -13,7 +13,7 @@ use borrow.Author.Tests.{leb-true, leb-false, ltb-true, ltb-false, lt-ltb, le-lt
 use Rattle.io.specs.Digits.{Fewest, digits}
 use Rattle.trie.specs.Choice.{pick}
 use Rattle.trie.specs.Values.{level, sums}
-use Rattle.lines.specs.Text.{placesFrom, decimal, newline, refusedWord, doneWord, refusedText, valueText, doneText, Put}
+use Rattle.grammar.specs.Text.{placesFrom, decimal, newline, refusedWord, doneWord, refusedText, valueText, doneText, Put}
 
 pub twenty : (n k : ℕ) → n < 2 ^ 64 → Fewest 10 1 n k → k ≤ 20
 twenty n k h f = go (leb k 20) refl

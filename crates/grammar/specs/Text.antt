@@ -9,8 +9,7 @@ use lib.Seq.{paste}
 use Rattle.io.specs.Digits.{digits}
 use Rattle.decibel.specs.Told.{Told, refused, gives}
 use Rattle.trie.specs.Choice.{pick}
-use Rattle.trie.specs.Values.{Value, yes′, no′, none, level, cell, sums, Ok, ok, Course, on, done, acceptedOf, progressOf}
-use Rattle.lines.specs.declared.Reply.{Reply}
+use Rattle.trie.specs.Values.{Value, yes′, no′, none, level, cell, sums, Ok, ok, Course, on, done}
 
 -- how many decimal digits n has: the first k from j on with n below 10 ^ k
 unfoldable pub placesFrom : ℕ → ℕ → ℕ → ℕ
@@ -62,10 +61,6 @@ unfoldable pub courseText : Told Course → List ℕ
 courseText (refused number) = refusedText number
 courseText (gives on) = onWord ++ newline
 courseText (gives (done v)) = doneText v
-
-unfoldable pub replyText : Reply → List ℕ
-replyText (Reply.Accepted a) = acceptedText (acceptedOf a)
-replyText (Reply.Progress p) = courseText (progressOf p)
 
 -- text stands in the buffer at `at`, which ends at r, and the rest is as it was
 pub record Put (text : List ℕ) (at : ℕ) (before after : List ℕ) (r : ℕ) : Type 0 where
