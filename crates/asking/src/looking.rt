@@ -3,8 +3,8 @@
 ghost use mathlib.Core.Path.{_≡_};
 ghost use Prim.Native.Nat.{_+_, _-_};
 ghost use Rattle.trie.specs.Asking.{lookOf, turnsRight, toward, towards};
+use sound::is_sound;
 use tables::ancestor;
-use tables::is_sound;
 use tables::load;
 use trie::Bounds;
 use trie::Fork;

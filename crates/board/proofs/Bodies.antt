@@ -24,44 +24,25 @@ arm-in (arm ks b arms) (suc k) = arm-in arms k
 arm-in (default b) k = b
 arm-in noDefault k = skip
 
--- an arm of a match, by its position
+-- an arm of a match, by its position; a branch has two
 abbrev pub arm-of : Body → ℕ → Body
 arm-of skip k = skip
 arm-of (seq a b) k = skip
 arm-of (assign p v) k = skip
 arm-of (block b) k = skip
 arm-of (loop b) k = skip
-arm-of (cond c a b) k = skip
+arm-of (cond c a b) zero = a
+arm-of (cond c a b) (suc k) = b
 arm-of (switch c arms) k = arm-in arms k
 arm-of (exit n) k = skip
 arm-of return k = skip
 arm-of (call f xs d) k = skip
 
--- the first arm of a branch
 abbrev pub then-of : Body → Body
-then-of skip = skip
-then-of (seq a b) = skip
-then-of (assign p v) = skip
-then-of (block b) = skip
-then-of (loop b) = skip
-then-of (cond c a b) = a
-then-of (switch c arms) = skip
-then-of (exit n) = skip
-then-of return = skip
-then-of (call f xs d) = skip
+then-of b = arm-of b 0
 
--- the second arm of a branch
 abbrev pub else-of : Body → Body
-else-of skip = skip
-else-of (seq a b) = skip
-else-of (assign p v) = skip
-else-of (block b) = skip
-else-of (loop b) = skip
-else-of (cond c a b) = b
-else-of (switch c arms) = skip
-else-of (exit n) = skip
-else-of return = skip
-else-of (call f xs d) = skip
+else-of b = arm-of b 1
 
 -- the type of a local, by its number
 abbrev pub ty-at : List Local → ℕ → Ty

@@ -9,7 +9,6 @@ pub mod Shared
 pub mod Lends
 pub mod Elements
 pub mod Elem
-pub mod Moving
 pub mod Tests
 pub mod Plans
 pub mod Carries

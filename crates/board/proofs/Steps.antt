@@ -20,8 +20,8 @@ use Rattle.trie.specs.Record.{idle}
 use Rattle.trie.specs.Values.{Course, progressOf}
 use Rattle.trie.specs.Stepping.{Stepped, refuses, planOf, carryOf, stepRecordOf}
 use Rattle.trie.specs.Calls.{State, state, After, after, stepAt, stepOf}
-use Rattle.board.specs.Judging.{judgeRecordOf}
-use Rattle.board.specs.JudgingLaws.{judgedOf, seated, step-seated, step-refused, record-refused, record-fits}
+use Rattle.judging.specs.Judging.{judgeRecordOf}
+use Rattle.judging.specs.JudgingLaws.{judgedOf, seated, step-seated, step-refused, record-refused, record-fits}
 use Rattle.board.proofs.Tests.{fails, not-fails}
 use Rattle.board.proofs.Carries.{refuses-at}
 

@@ -8,7 +8,7 @@ use Rattle.trie.specs.Choice.{pick}
 use Rattle.trie.specs.Size.{allowed}
 use Rattle.trie.specs.Values.{Ok}
 use Rattle.trie.specs.Opening.{Opened, openTablesOf}
-use Rattle.board.specs.Judging.{mannedBy}
+use Rattle.judging.specs.Judging.{mannedBy}
 
 unfoldable pub openMannedOf : ℕ → ℕ → ℕ → List ℕ → List ℕ → Opened
 openMannedOf n w seats nodes versions =

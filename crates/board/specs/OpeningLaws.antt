@@ -18,8 +18,8 @@ use Rattle.trie.specs.Record.{idle}
 use Rattle.trie.specs.Values.{Ok, ok}
 use Rattle.trie.specs.Opening.{Opened, filled, openNodes, openVersions, openTablesOf, openBoard, checkTables}
 use Rattle.trie.specs.Calls.{State, state, After, after, check, manned, openOf}
-use Rattle.board.specs.Judging.{mannedBy}
-use Rattle.board.specs.JudgingLaws.{manned-by}
+use Rattle.judging.specs.Judging.{mannedBy}
+use Rattle.judging.specs.JudgingLaws.{manned-by}
 use Rattle.board.specs.Opening.{openMannedOf, restingOf}
 
 -- all that is lent, from the tables and the board

@@ -1,13 +1,35 @@
--- A promised sum as a number, and the bound under which it is formed.
+-- What is promised, reckoned from a count of the updates, and the bound under which it is reckoned.
 -- Assumes nothing.
-use Prim.Native.Nat.{ℕ}
+use mathlib.Core.Bool.{true, _&&_}
+use mathlib.Core.List.{List}
+use Prim.Native.Nat.{ℕ, zero, suc, _+_, _*_, _-_, _%_}
+use lib.Dec.{leb}
+use lib.ListN.{getD}
+use Rattle.trie.specs.declared.Phase.{Phase}
 use Rattle.trie.specs.declared.Promised.{Promised}
-
--- the number that a sum has come to
-abbrev pub sumOf : Promised → ℕ
-sumOf Promised.Damaged = 0
-sumOf (Promised.Of a) = a
+use Rattle.trie.specs.declared.Worker.{Worker}
+use Rattle.trie.specs.Choice.{pick}
+use Rattle.trie.specs.Record.{idle}
+use Rattle.records.specs.Fitting.{updating, madeOf}
+use Rattle.board.specs.declared.promising.Tally.{Tally}
 
 -- no word has more zero bits than it has bits
 abbrev pub mostShare : ℕ
 mostShare = 65
+
+-- no worker counted
+abbrev pub none : Tally
+none = record { updates = 0; made = 0; within = true }
+
+-- one worker more
+abbrev pub counted : ℕ → Tally → Phase → Tally
+counted share t p = record { updates = t .updates + pick (updating p) 1 0; made = t .made + madeOf p % 128; within = t .within && leb (madeOf p) share }
+
+-- the first i workers of the board
+abbrev pub tallyOf : ℕ → ℕ → List Worker → Tally
+tallyOf share zero board = none
+tallyOf share (suc i) board = counted share (tallyOf share i board) (getD board i idle .phase)
+
+-- what the updates counted may still make
+abbrev pub stillDue : ℕ → Tally → Promised
+stillDue share t = pick (t .within) (Promised.Of (t .updates * share - t .made)) Promised.Damaged

@@ -43,7 +43,7 @@ fn worker_next(next: Next) -> Worker
 {
     match next {
         Next::On(w) => w,
-        Next::Done(_) => tables::rested(),
+        Next::Done(_) => records::rested(),
     }
 }
 
@@ -65,7 +65,7 @@ fn settle(next: Next, at: usize, board: &mut [Worker]) -> Progress
         board[at] = worker_next(next);
         return on();
     }
-    board[at] = tables::rested();
+    board[at] = records::rested();
     progress_next(next)
 }
 

@@ -1,7 +1,6 @@
 // The public calls of document 01: open, start and step, on lent tables and a lent row of workers.
 // A start or a step writes one worker's record, where it lies, and no other; an open rests the workers 0 to W - 1.
 mod carrying;
-mod judging;
 mod opening;
 mod planning;
 mod promising;
@@ -11,4 +10,3 @@ mod stepping;
 pub use opening::open;
 pub use starting::start;
 pub use stepping::step;
-pub use stepping::step_in_place;

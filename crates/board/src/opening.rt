@@ -7,7 +7,7 @@ ghost use Rattle.trie.specs.Values.{Ok, acceptedOf};
 ghost use Rattle.trie.specs.Opening.{Opened, openBoard};
 ghost use Rattle.trie.specs.Calls.{After, after, state, openOf};
 ghost use Rattle.board.specs.Opening.{openMannedOf, restingOf};
-use crate::judging::is_manned;
+use judging::is_manned;
 use trie::Accepted;
 use trie::Worker;
 
@@ -39,7 +39,7 @@ fn rest(w: usize, board: &mut [Worker])
     requires { ⌜ w ≤ length (now board) ⌝ }
     ensures { λ _. ⌜ now (board .exit) ≡ openBoard w (now (board .entry)) ⌝ }
 {
-    let idle = tables::rested();
+    let idle = records::rested();
     let mut i = 0;
     while i < w {
         board[i] = idle;

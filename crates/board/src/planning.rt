@@ -67,8 +67,8 @@ pub(crate) fn plan_leaf(b: Bounds, w: Worker, nodes: &[u64], versions: &[u64]) -
     let phase = w.phase;
     match phase {
         Phase::Idle => Plan::Damaged,
-        Phase::Read(u) => climbing::read(b, u, nodes, versions),
-        Phase::Swap(u, v) => climbing::swap(b, u, v, nodes, versions),
+        Phase::Read(u) => marking::read(b, u, nodes, versions),
+        Phase::Swap(u, v) => marking::swap(b, u, v, nodes, versions),
         Phase::Refresh(_, _) => Plan::Damaged,
         Phase::Ask(_) => Plan::Damaged,
         Phase::Find(_, _) => Plan::Damaged,

@@ -1,11 +1,13 @@
-// What the busy updates of the board may still make, summed record by record.
+// What the busy updates of the board may still make: counted record by record, and reckoned once at the end.
 // Records at W and beyond are never read.
 ghost use mathlib.Core.Path.{_≡_};
-ghost use Prim.Native.Nat.{_+_, _<_, _≤_, _^_};
+ghost use mathlib.Core.Bool.{true};
+ghost use Prim.Native.Nat.{_+_, _*_, _<_, _≤_, _^_};
 ghost use lib.ListN.{length};
+ghost use Rattle.trie.specs.Choice.{pick};
 ghost use Rattle.trie.specs.Size.{heightOf, mostWorkers};
-ghost use Rattle.trie.specs.Record.{owedPhase, together, promisedOf};
-ghost use Rattle.board.specs.Promising.{sumOf, mostShare};
+ghost use Rattle.trie.specs.Record.{promisedOf};
+ghost use Rattle.board.specs.Promising.{mostShare, none, counted, stillDue};
 use trie::Promised;
 use trie::Worker;
 
@@ -16,25 +18,54 @@ pub(crate) fn share(n: u64) -> u64
     tables::height(n) + 1
 }
 
-// One worker's part more.
-fn owe_more(share: u64, sum: Promised, w: Worker) -> Promised
-    requires { ⌜ sumOf sum + share < 2 ^ 64 ⌝ }
-    ensures { λ r. ⌜ r ≡ together sum (owedPhase share (w .phase)) ⌝ }
+// The updates among some workers: how many there are, how many versions they have made, and whether each is within its share.
+struct Tally {
+    updates: u64,
+    made: u64,
+    within: bool,
+}
+
+// No worker is counted yet.
+fn nothing() -> Tally
+    ensures { λ r. ⌜ r ≡ none ⌝ }
 {
-    let part = tables::owed(share, w);
-    match sum {
-        Promised::Damaged => Promised::Damaged,
-        Promised::Of(a) => match part {
-            Promised::Damaged => Promised::Damaged,
-            Promised::Of(b) => Promised::Of(a + b),
-        },
+    Tally {
+        updates: 0,
+        made: 0,
+        within: true,
     }
 }
 
-fn nothing() -> Promised
-    ensures { λ r. ⌜ r ≡ Promised.Of 0 ⌝ }
+fn one_if(t: bool) -> u64
+    ensures { λ r. ⌜ r ≡ pick t 1 0 ⌝ }
 {
-    Promised::Of(0)
+    if t { 1 } else { 0 }
+}
+
+// One worker more. No sum hangs on a branch by what the worker is at: nothing foretells that.
+// A number within its share is below 128, so that the sum of what is made is exact where all are within.
+fn count_in(share: u64, t: Tally, w: Worker) -> Tally
+    requires { ⌜ (t .updates + 1 < 2 ^ 64) × (t .made + 128 < 2 ^ 64) ⌝ }
+    ensures { λ r. ⌜ r ≡ counted share t (w .phase) ⌝ }
+{
+    let made = records::made(w);
+    Tally {
+        updates: t.updates + one_if(records::is_updating(w)),
+        made: t.made + made % 128,
+        within: t.within & (made <= share),
+    }
+}
+
+// What the updates counted may still make: a share each, less what they have made.
+fn still_due(share: u64, t: Tally) -> Promised
+    requires { ⌜ (t .updates * share < 2 ^ 64) × (t .within ≡ true → t .made ≤ t .updates * share) ⌝ }
+    ensures { λ r. ⌜ r ≡ stillDue share t ⌝ }
+{
+    if t.within {
+        Promised::Of(t.updates * share - t.made)
+    } else {
+        Promised::Damaged
+    }
 }
 
 pub(crate) fn promised(share: u64, w: usize, board: &[Worker]) -> Promised
@@ -44,8 +75,8 @@ pub(crate) fn promised(share: u64, w: usize, board: &[Worker]) -> Promised
     let mut sum = nothing();
     let mut i = 0;
     while i < w {
-        sum = owe_more(share, sum, board[i]);
+        sum = count_in(share, sum, board[i]);
         i += 1;
     }
-    sum
+    still_due(share, sum)
 }

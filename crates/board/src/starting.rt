@@ -3,9 +3,9 @@
 ghost use mathlib.Core.Path.{_≡_};
 ghost use Rattle.trie.specs.Values.{Ok, acceptedOf};
 ghost use Rattle.trie.specs.Calls.{After, after, state, startOf};
-use crate::judging::judge;
 use crate::promising::promised;
 use crate::promising::share;
+use judging::judge;
 use trie::Accepted;
 use trie::Begun;
 use trie::Operation;

@@ -6,31 +6,20 @@ ghost use lib.ListN.{length, getD};
 ghost use Rattle.trie.specs.Size.{mostCells, tallest};
 ghost use Rattle.trie.specs.Record.{idle};
 ghost use Rattle.trie.specs.Values.{Course, progressOf};
-ghost use Rattle.trie.specs.Stepping.{Stepped, planOf, carryOf, stepRecordOf};
+ghost use Rattle.trie.specs.Stepping.{planOf, carryOf};
 ghost use Rattle.trie.specs.Calls.{After, after, state, stepAt, stepOf};
 use crate::carrying::carry;
 use crate::carrying::refuse;
-use crate::judging::judge;
-use crate::judging::judge_record;
 use crate::planning::is_at_leaf;
 use crate::planning::is_refreshing;
 use crate::planning::plan_leaf;
 use crate::planning::plan_query;
 use crate::planning::plan_refresh;
+use judging::judge;
+use judging::judge_record;
 use trie::Bounds;
 use trie::Progress;
 use trie::Worker;
-
-// Steps a record where it lies: refusals 1, 3, 6 and 9.
-pub fn step_in_place(n: u64, w: &mut Worker, nodes: &mut [u64], versions: &mut [u64]) -> Progress
-    ensures { λ r. ⌜ _≡_ {A = Stepped} (record { told = progressOf r; worker = now (w .exit); nodes = now (nodes .exit); versions = now (versions .exit) }) (stepRecordOf n (now (w .entry)) (now (nodes .entry)) (now (versions .entry))) ⌝ }
-{
-    let moved = steps::step_record(n, *w, nodes, versions);
-    if steps::has_moved(moved) {
-        *w = steps::worker_after(moved, *w);
-    }
-    steps::progress_after(moved)
-}
 
 // The worker's plan, made and carried out; 9 where the used count is unsound.
 fn turn(
@@ -43,7 +32,7 @@ fn turn(
     requires { ⌜ (at < length (now board)) × (b .cells ≤ mostCells) × (b .height ≤ tallest) ⌝ }
     ensures { λ r. ⌜ _≡_ {A = After Course} (after (progressOf r) (state (now (nodes .exit)) (now (versions .exit)) (now (board .exit)))) (stepAt at (state (now (nodes .entry)) (now (versions .entry)) (now (board .entry))) (carryOf (planOf b (getD (now (board .entry)) at idle .phase) (now (nodes .entry)) (now (versions .entry))) (getD (now (board .entry)) at idle) (now (nodes .entry)) (now (versions .entry)))) ⌝ }
 {
-    if !tables::is_used_sound(b) {
+    if !sound::is_used_sound(b) {
         return refuse(9);
     }
     if is_refreshing(board[at]) {
@@ -94,7 +83,7 @@ pub fn step(
         return refuse(by_record);
     }
     turn(
-        tables::bounds(n, nodes, versions),
+        sound::bounds(n, nodes, versions),
         at,
         nodes,
         versions,

@@ -1,2 +1,1 @@
-pub mod Converting
 pub mod Refreshes

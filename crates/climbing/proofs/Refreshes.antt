@@ -21,7 +21,7 @@ use Rattle.trie.specs.Record.{updateFits, leafOf, above, climbFits}
 use Rattle.trie.specs.Leaf.{sure}
 use Rattle.trie.specs.Refreshing.{sumOf, placeSum, joinOf, refreshHeld, refreshOf}
 use Rattle.trie.specs.SizeLaws.{and-first, and-second}
-use Rattle.tables.specs.Tests.{fits-cell}
+use Rattle.records.specs.Tests.{fits-cell}
 
 above-le : (d y x : ℕ) → above d y x ≡ true → x ≤ y
 unfolding above

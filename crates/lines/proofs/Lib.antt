@@ -4,7 +4,7 @@ mod Called
 mod Taken
 pub mod Feeds
 mod Shorts
-mod Runs
+mod RunLaws
 mod Outcomes
 pub mod Cuts
 pub mod Whole

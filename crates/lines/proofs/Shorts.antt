@@ -14,7 +14,7 @@ use Rattle.grammar.specs.declared.Line.{Line}
 use Rattle.grammar.specs.Grammar.{starts, ended, digits, numberOf, oneOf, commandOf, lineOf}
 use Rattle.trie.specs.Choice.{pick}
 use Rattle.trie.specs.SizeLaws.{and-first, and-second}
-use Rattle.lines.specs.declared.chunks.Short.{Short}
+use Rattle.lines.specs.declared.short.Short.{Short}
 use Rattle.lines.specs.Feeding.{plain, between}
 use Rattle.lines.specs.Places.{isStep, digitOf, Found}
 

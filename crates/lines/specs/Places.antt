@@ -17,7 +17,7 @@ use Rattle.trie.specs.Values.{progressOf}
 use Rattle.lines.specs.declared.Place.{Place}
 use Rattle.lines.specs.declared.Run.{Run}
 use Rattle.lines.specs.declared.Turn.{Turn}
-use Rattle.lines.specs.declared.chunks.Short.{Short}
+use Rattle.lines.specs.declared.short.Short.{Short}
 use Rattle.grammar.specs.Text.{Put, courseText}
 use Rattle.lines.specs.Replies.{replyText}
 use Rattle.lines.specs.Watch.{Watch, opened}

@@ -2,6 +2,10 @@
 // The definitions of specs/ follow document 01, "The listing program", and the contracts are equations with them.
 mod chunks;
 mod histories;
+mod keeping;
+mod places;
+mod runs;
+mod short;
 mod text;
 mod turns;
 

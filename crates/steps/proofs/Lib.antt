@@ -1,3 +1,2 @@
 pub mod Grants
-pub mod Carries
 pub mod Fills

@@ -1,12 +1,7 @@
-// The calls on one record and the lent tables: opening the tables, starting an operation, stepping it.
-// A call is judged and planned by functions that only read; one small function then writes.
+// The calls that begin: opening the lent tables, and starting an operation in one record.
+// A start only records; what it needs to know of other workers is handed to it as one sum.
 mod opening;
 mod starting;
-mod stepping;
 
 pub use opening::open_tables;
 pub use starting::start_record;
-pub use stepping::has_moved;
-pub use stepping::progress_after;
-pub use stepping::step_record;
-pub use stepping::worker_after;

@@ -1,3 +1,1 @@
-pub mod Orders
-pub mod Paths
-pub mod Leaves
+pub mod Halves

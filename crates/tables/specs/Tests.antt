@@ -1,21 +1,13 @@
--- What a test that held says of its parts.
+-- What the test of an allowed number says of it.
 -- Assumes nothing.
-use mathlib.Core.Path.{_≡_, refl}
-use mathlib.Core.Bool.{Bool, true, false, _&&_}
-use Prim.Native.Nat.{ℕ, _≤_, _<_}
-use native.Mathlib.Omega.{arith}
-use borrow.Author.Tests.{ltb-true, leb-true}
-use lib.Dec.{eqb, ltb, leb}
+use mathlib.Core.Path.{_≡_}
+use mathlib.Core.Bool.{true, _&&_}
+use Prim.Native.Nat.{ℕ, _≤_}
+use borrow.Author.Tests.{leb-true}
+use lib.Dec.{eqb, leb}
 use lib.Count.{ones}
-use Rattle.decibel.specs.Conversion.{loudest}
-use Rattle.trie.specs.declared.Update.{Update}
 use Rattle.trie.specs.Size.{mostCells, allowed}
 use Rattle.trie.specs.SizeLaws.{and-first, and-second}
-use Rattle.trie.specs.Record.{cellOf, updateFits}
-
-pub fits-cell : (n : ℕ) (u : Update) → updateFits n u ≡ true → cellOf u < n
-fits-cell n (Update.Insert k l) e = ltb-true k n (and-first (ltb k n) (leb (l .0) loudest) e)
-fits-cell n (Update.Delete k) e = ltb-true k n e
 
 -- a number of cells that is allowed
 pub record Allowed (n : ℕ) : Type 0 where

@@ -77,7 +77,7 @@ pub fn store(versions: &mut [u64], v: VersionNumber, r: Version)
 }
 
 // V: a longer table is no refusal, but its further versions are not used.
-pub(crate) fn room(versions: &[u64]) -> u64
+pub fn room(versions: &[u64]) -> u64
     ensures { λ r. ⌜ r ≡ roomOf (now (versions .entry)) ⌝ }
 {
     let whole = (versions.len() as u64) / 5;

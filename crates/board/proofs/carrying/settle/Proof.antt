@@ -59,10 +59,10 @@ use Rattle.board.proofs.carrying.worker_next as worker-next
 use Rattle.board.proofs.carrying.worker_next.Symbol as worker-next-def
 use Rattle.board.proofs.carrying.worker_next.Symbol.{name as #worker-next}
 use Rattle.board.proofs.carrying.worker_next.Met as worker-next-thm
-use Rattle.tables.proofs.rested as rested
-use Rattle.tables.proofs.rested.Symbol as rested-def
-use Rattle.tables.proofs.rested.Symbol.{name as #rested}
-use Rattle.tables.proofs.rested.Met as rested-thm
+use Rattle.records.proofs.rested as rested
+use Rattle.records.proofs.rested.Symbol as rested-def
+use Rattle.records.proofs.rested.Symbol.{name as #rested}
+use Rattle.records.proofs.rested.Met as rested-thm
 use Rattle.board.proofs.carrying.on as on
 use Rattle.board.proofs.carrying.on.Symbol as on-def
 use Rattle.board.proofs.carrying.on.Symbol.{name as #on}
@@ -191,7 +191,7 @@ settle-spec 𝓤 H 𝓜 𝓖 𝓡 =
     (f-meets 𝓤 H (𝓖 .A) (givenOf 𝓤 H 𝓜 𝓖) (𝓜 .mem) (𝓡 .run) (tablesOf 𝓤 H 𝓜 (tables 𝓤 H 𝓜 𝓡 code.env)) (
       cited 𝓤 H (contractOf 𝓤 H (𝓖 .A) is-on.ended (is-on.clauses 𝓤 H (𝓖 .A) (𝓜 .mem) (𝓡 .run))) 𝓜 𝓡 code.env #is-on is-on-def.routine code.calls-board·carrying·is-on (is-on-thm.met 𝓤 H 𝓜 𝓖 𝓡),
       cited 𝓤 H (contractOf 𝓤 H (𝓖 .A) worker-next.ended (worker-next.clauses 𝓤 H (𝓖 .A) (𝓜 .mem) (𝓡 .run))) 𝓜 𝓡 code.env #worker-next worker-next-def.routine code.calls-board·carrying·worker-next (worker-next-thm.met 𝓤 H 𝓜 𝓖 𝓡),
-      cited 𝓤 H (contractOf 𝓤 H (𝓖 .A) rested.ended (rested.clauses 𝓤 H (𝓖 .A) (𝓜 .mem) (𝓡 .run))) 𝓜 𝓡 code.env #rested rested-def.routine code.calls-tables·rested (rested-thm.met 𝓤 H 𝓜 𝓖 𝓡),
+      cited 𝓤 H (contractOf 𝓤 H (𝓖 .A) rested.ended (rested.clauses 𝓤 H (𝓖 .A) (𝓜 .mem) (𝓡 .run))) 𝓜 𝓡 code.env #rested rested-def.routine code.calls-records·rested (rested-thm.met 𝓤 H 𝓜 𝓖 𝓡),
       cited 𝓤 H (contractOf 𝓤 H (𝓖 .A) on.ended (on.clauses 𝓤 H (𝓖 .A) (𝓜 .mem) (𝓡 .run))) 𝓜 𝓡 code.env #on on-def.routine code.calls-board·carrying·on (on-thm.met 𝓤 H 𝓜 𝓖 𝓡),
       cited 𝓤 H (contractOf 𝓤 H (𝓖 .A) progress-next.ended (progress-next.clauses 𝓤 H (𝓖 .A) (𝓜 .mem) (𝓡 .run))) 𝓜 𝓡 code.env #progress-next progress-next-def.routine code.calls-board·carrying·progress-next (progress-next-thm.met 𝓤 H 𝓜 𝓖 𝓡),
     ))

@@ -52,10 +52,10 @@ use Rattle.trie.specs.OpenLaws.{open-board-length}
 use Rattle.board.specs.OpeningLaws.{rests-next, rests-none}
 use Rattle.board.proofs.Callee.{contractOf, calls-plain}
 use Rattle.board.proofs.Elem.{R, vals, tells, makes, lawful, bytes, step-fits}
-use Rattle.tables.proofs.rested as rested
-use Rattle.tables.proofs.rested.Symbol as rested-def
-use Rattle.tables.proofs.rested.Symbol.{name as #rested}
-use Rattle.tables.proofs.rested.Met as rested-thm
+use Rattle.records.proofs.rested as rested
+use Rattle.records.proofs.rested.Symbol as rested-def
+use Rattle.records.proofs.rested.Symbol.{name as #rested}
+use Rattle.records.proofs.rested.Met as rested-thm
 use Rattle.board.proofs.opening.rest.Key.{name as #rest}
 use Rattle.board.proofs.opening.rest as f
 use Rattle.board.proofs.opening.rest.Statement as stated
@@ -217,4 +217,4 @@ rest-spec 𝓤 H 𝓜 𝓖 𝓡 =
     entered 𝓤 H (tripleOf 𝓤 H (𝓖 .A) f.signature (f.spec 𝓤 H (𝓖 .A) (𝓜 .mem) (𝓡 .run)))
     (tables 𝓤 H 𝓜 𝓡 code.env .C) (tables 𝓤 H 𝓜 𝓡 code.env .Λ) #rest code.function (code.unfolded 𝓤 H 𝓜 𝓡)
     (f-meets 𝓤 H (𝓖 .A) (givenOf 𝓤 H 𝓜 𝓖) (𝓜 .mem) (𝓡 .run) (tablesOf 𝓤 H 𝓜 (tables 𝓤 H 𝓜 𝓡 code.env))
-    (cited 𝓤 H (contractOf 𝓤 H (𝓖 .A) rested.ended (rested.clauses 𝓤 H (𝓖 .A) (𝓜 .mem) (𝓡 .run))) 𝓜 𝓡 code.env #rested rested-def.routine code.calls-tables·rested (rested-thm.met 𝓤 H 𝓜 𝓖 𝓡)))
+    (cited 𝓤 H (contractOf 𝓤 H (𝓖 .A) rested.ended (rested.clauses 𝓤 H (𝓖 .A) (𝓜 .mem) (𝓡 .run))) 𝓜 𝓡 code.env #rested rested-def.routine code.calls-records·rested (rested-thm.met 𝓤 H 𝓜 𝓖 𝓡)))

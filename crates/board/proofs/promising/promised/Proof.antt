@@ -1,8 +1,8 @@
 -- `board::promising::promised` meets its contract: a walk of its MIR, by hand, with a loop that reads. The slice is looked into once, before the loop, and shut after it.
--- The loop's invariant, `At i`, is the whole context where i workers are summed. The variant is what is left, t, and i is `w - t`. Assumes nothing.
+-- The loop's invariant, `At i`, is the whole context where i workers are counted. The variant is what is left, t, and i is `w - t`. Assumes nothing.
 use mathlib.Core.Path.{_≡_, refl, sym, ap, _∙_, subst}
 use mathlib.Core.Bool.{Bool, true, false}
-use Prim.Native.Nat.{ℕ, suc, _+_, _-_, _<_, _≤_, _^_}
+use Prim.Native.Nat.{ℕ, suc, _+_, _*_, _-_, _<_, _≤_, _^_}
 use native.Mathlib.Omega.{arith}
 use native.Mathlib.Numerals.{add-one}
 use mathlib.Core.List.{List, [], _∷_}
@@ -29,7 +29,7 @@ use types.Share.{arr-parts}
 use sound.WpLaws.{fmOf, WpFn-mono}
 use borrow.Author.Tests.{ltb-true, ltb-false}
 use denote.RattleType.{owns}
-use denote.Laws.{Is, shows}
+use denote.Laws.{Is, Tells, Makes, Lawful, shows}
 use denote.Memory.{pointee, shares}
 use denote.Plain.{uint-vals, uint-tells, uint-makes}
 use denote.Builtin.{usize, u64}
@@ -37,6 +37,7 @@ use denote.Ref.{RefT}
 use denote.Slice.{sliceTy, sliceVal, ShrSlice, heres, Room, slice-vals, shr-slice-tells, at-slice, codedHoleys}
 use denote.Index.{row, place-is, elem-out, elem-back, looks-slice, shuts-slice}
 use denote.Signature.{plain}
+use denote.Struct.Laws as LL
 use denote.Steps.{only, owned, nothing}
 use denote.Triple.Entry.{Vals, onEntry}
 use denote.Triple.Spec.{Meets, tripleOf}
@@ -47,20 +48,27 @@ use denote.Exit.{yes}
 use Rattle.trie.specs.declared.Worker.{Worker}
 use Rattle.trie.specs.declared.Promised.{Promised}
 use Rattle.trie.specs.Size.{mostWorkers}
-use Rattle.trie.specs.Record.{idle, owedPhase, together, promisedOf}
+use Rattle.trie.specs.Record.{idle, promisedOf}
 use Rattle.trie.proofs.Promised as Su
-use Rattle.board.specs.Promising.{sumOf, mostShare}
-use Rattle.board.specs.PromisingLaws.{promised-next, promised-bound}
+use Rattle.board.specs.declared.promising.Tally.{Tally}
+use Rattle.board.specs.Promising.{mostShare, none, counted, tallyOf, stillDue}
+use Rattle.board.specs.PromisingLaws.{tally-updates, tally-made, tally-within, tally-due, promised-by-tally}
 use Rattle.board.proofs.Callee.{contractOf, calls-plain}
-use Rattle.board.proofs.Elem.{R, vals, tells, makes, copies, lawful, bytes, step-fits, promised-makes, promised-lawful, sum-val, sum-tells, sum-is}
+use Rattle.board.proofs.Elem.{R, vals, tells, makes, copies, lawful, bytes, step-fits, promised-makes, promised-lawful}
+use Rattle.board.proofs.promising.Tally as Ta
+use Rattle.board.proofs.promising.Tally.Laws as Ta′
 use Rattle.board.proofs.promising.nothing as nothing-yet
 use Rattle.board.proofs.promising.nothing.Symbol as nothing-yet-def
 use Rattle.board.proofs.promising.nothing.Symbol.{name as #nothing-yet}
 use Rattle.board.proofs.promising.nothing.Met as nothing-yet-thm
-use Rattle.board.proofs.promising.owe_more as owe-more
-use Rattle.board.proofs.promising.owe_more.Symbol as owe-more-def
-use Rattle.board.proofs.promising.owe_more.Symbol.{name as #owe-more}
-use Rattle.board.proofs.promising.owe_more.Met as owe-more-thm
+use Rattle.board.proofs.promising.count_in as count-in
+use Rattle.board.proofs.promising.count_in.Symbol as count-in-def
+use Rattle.board.proofs.promising.count_in.Symbol.{name as #count-in}
+use Rattle.board.proofs.promising.count_in.Met as count-in-thm
+use Rattle.board.proofs.promising.still_due as still-due
+use Rattle.board.proofs.promising.still_due.Symbol as still-due-def
+use Rattle.board.proofs.promising.still_due.Symbol.{name as #still-due}
+use Rattle.board.proofs.promising.still_due.Met as still-due-thm
 use Rattle.board.proofs.promising.promised.Key.{name as #promised}
 use Rattle.board.proofs.promising.promised as f
 use Rattle.board.proofs.promising.promised.Statement as stated
@@ -72,7 +80,7 @@ stayed = (stay-none (λ _. u64) yes, (stay-none (λ _. usize) yes, (stay-none-sl
 
 -- the theorems of the functions that it calls
 abbrev Knows : {M : Type 1} (𝓤 : URA M) (H : Heap 𝓤) (A : Atoms 𝓤) (mem : Memory → SProp 𝓤) (run : Routine → Fun 𝓤) → Calls 𝓤 H → Type 1
-Knows 𝓤 H A mem run C = Triple 𝓤 (C #nothing-yet) (contractOf 𝓤 H A nothing-yet.ended (nothing-yet.clauses 𝓤 H A mem run)) × Triple 𝓤 (C #owe-more) (contractOf 𝓤 H A owe-more.ended (owe-more.clauses 𝓤 H A mem run))
+Knows 𝓤 H A mem run C = Triple 𝓤 (C #nothing-yet) (contractOf 𝓤 H A nothing-yet.ended (nothing-yet.clauses 𝓤 H A mem run)) × Triple 𝓤 (C #count-in) (contractOf 𝓤 H A count-in.ended (count-in.clauses 𝓤 H A mem run)) × Triple 𝓤 (C #still-due) (contractOf 𝓤 H A still-due.ended (still-due.clauses 𝓤 H A mem run))
 
 abbrev word : Ty
 word = tyInt w64
@@ -81,11 +89,34 @@ word = tyInt w64
 abbrev worker-ty : Ty
 worker-ty = spell mir.table (pointee (R .written))
 
-abbrev sum-ty : Ty
-sum-ty = spell mir.table (pointee (Su.the-row .written))
+abbrev promised-ty : Ty
+promised-ty = spell mir.table (pointee (Su.the-row .written))
+
+abbrev tally-ty : Ty
+tally-ty = spell mir.table (pointee (Ta.the-row .written))
 
 abbrev slice : Ty
 slice = sliceTy (tyRef (named 0) imm (pointee (R .written)))
+
+-- ---- a Tally: its machine value and its laws. The type is private, so they stand here
+
+abbrev tally-val : Tally → Val
+tally-val = LL.val Ta.the-type Ta′.the-laws
+
+tally-tells : Tells Ta.the-row (Is Ta.the-row) (λ t. tally-val t ∷ [])
+tally-tells = LL.tells Ta.the-type Ta′.the-laws
+
+tally-is : (t : Tally) → t .updates < 2 ^ 64 → t .made < 2 ^ 64 → Is Ta.the-row t (tally-val t ∷ [])
+tally-is t l m = LL.owes Ta.the-type Ta′.the-laws t ((refl, l), ((refl, m), (refl, tt)))
+
+module _ {M : Type 1} (𝓤 : URA M) (H : Heap 𝓤) (A : Atoms 𝓤) where
+  tally-makes : Makes 𝓤 H A Ta.the-row (Is Ta.the-row)
+  tally-makes = LL.makes Ta.the-type Ta′.the-plain 𝓤 H A
+
+  tally-lawful : Given 𝓤 H A → Lawful 𝓤 H A Ta.the-row
+  tally-lawful W = LL.lawful Ta.the-type Ta′.the-laws 𝓤 H A W
+
+-- ---- the walk
 
 module _ {M : Type 1} (𝓤 : URA M) (H : Heap 𝓤) (A : Atoms 𝓤) (W : Given 𝓤 H A) (mem : Memory → SProp 𝓤) (run : Routine → Fun 𝓤) (κ : Lft) (q : Share) (share w b o : ℕ) (γ : GName) (ys : List Worker)
     (gs : share < 2 ^ 64) (gw : w < 2 ^ 64) (room : Room R (length ys)) (small : share ≤ mostShare) (few : w ≤ mostWorkers) (seats : w ≤ length ys) where
@@ -107,22 +138,26 @@ module _ {M : Type 1} (𝓤 : URA M) (H : Heap 𝓤) (A : Atoms 𝓤) (W : Given
   abbrev Post : Val → SProp 𝓤
   Post = walkOf 𝓤 H A f.ended stayed (f.clauses 𝓤 H A mem run) .post (((κ, tt), (q, tt), tt, a, at), tt)
 
-  abbrev sum : ℕ → Promised
-  sum i = promisedOf share i ys
+  abbrev sum : ℕ → Tally
+  sum i = tallyOf share i ys
 
-  -- a sum with a share more is a word
-  next-fits : (i : ℕ) → i ≤ mostWorkers → sumOf (sum i) + share < 2 ^ 64
-  next-fits i l = omega (arith, l, small, promised-bound share i ys small)
+  -- a count with one worker more is of words
+  next-fits : (i : ℕ) → i ≤ mostWorkers → (sum i .updates + 1 < 2 ^ 64) × (sum i .made + 128 < 2 ^ 64)
+  next-fits i l = (omega (arith, l, tally-updates share i ys), omega (arith, l, tally-made share i ys))
 
-  sum-fits : (i : ℕ) → i ≤ mostWorkers → sumOf (sum i) < 2 ^ 64
-  sum-fits i l = omega (arith, next-fits i l)
+  sum-is : (i : ℕ) → i ≤ mostWorkers → Is Ta.the-row (sum i) (tally-val (sum i) ∷ [])
+  sum-is i l = tally-is (sum i) (omega (arith, next-fits i l .0)) (omega (arith, next-fits i l .1))
 
-  exits : ent 𝓤 (⋆ 𝓤 H A (‵ (flft κ q) ∷ ‵ (ShrSlice (named 0) κ R .own x (s ∷ [])) ∷ [])) (Post (sum-val (sum w)))
-  exits =
+  -- what all updates may make is a word
+  due-fits : sum w .updates * share < 2 ^ 64
+  due-fits = omega (arith, few, tally-due share w ys small)
+
+  exits : (v : Val) (r : Promised) → r ≡ promisedOf share w ys → Is Su.the-row r (v ∷ []) → ent 𝓤 (⋆ 𝓤 H A (‵ (flft κ q) ∷ ‵ (ShrSlice (named 0) κ R .own x (s ∷ [])) ∷ [])) (Post v)
+  exits v r e is =
       qed W (‵ (flft κ q) ∷ ‵ (ShrSlice (named 0) κ R .own x (s ∷ [])) ∷ []) ∵
-      suffices ! _ (ends-at 𝓤 H A f.ended stayed (f.clauses 𝓤 H A mem run) W (((κ, tt), (q, tt), tt, a, at), tt) (sum-val (sum w)) (sum w) (tt, (tt, (tt, tt))) (tt, (tt, (tt, tt)))) $ says ! refl $
+      suffices ! _ (ends-at 𝓤 H A f.ended stayed (f.clauses 𝓤 H A mem run) W (((κ, tt), (q, tt), tt, a, at), tt) v r (tt, (tt, (tt, tt))) (tt, (tt, (tt, tt)))) $ says ! e $
       nothing ! $ move ! (1 ∷ []) $ join ! $ frame ! $ nothing ! $ move ! (1 ∷ []) $ fjoin ! $ owned ! usize (Is usize) (uint-makes 𝓤 H A W w64) w _ (refl, gw) $ fjoin ! $ owned ! u64 (Is u64) (uint-makes 𝓤 H A W w64) share _ (refl, gs) $ fjoin ! $ frame ! $
-      owned ! Su.the-row (Is Su.the-row) (promised-makes 𝓤 H A) (sum w) (sum-val (sum w) ∷ []) (sum-is (sum w) (sum-fits w few)) $ done !
+      owned ! Su.the-row (Is Su.the-row) (promised-makes 𝓤 H A) r (v ∷ []) is $ done !
 
   module _ (𝓣 : Tables 𝓤 H) (known : Knows 𝓤 H A mem run (𝓣 .C)) (q′ : Share) (l₀ l₁ l₂ l₃ l₄ l₅ l₆ l₇ l₈ l₉ : ℕ) where
     abbrev C : Calls 𝓤 H
@@ -132,16 +167,16 @@ module _ {M : Type 1} (𝓤 : URA M) (H : Heap 𝓤) (A : Atoms 𝓤) (W : Given
     Λ = 𝓣 .Λ
 
     abbrev En : Env 𝓤 H
-    En = (sum-ty, l₀) ∷ (word, l₁) ∷ (word, l₂) ∷ (slice, l₃) ∷ (sum-ty, l₄) ∷ (word, l₅) ∷ (tyBool, l₆) ∷ (word, l₇) ∷ (tyPtr, l₈) ∷ (worker-ty, l₉) ∷ []
+    En = (promised-ty, l₀) ∷ (word, l₁) ∷ (word, l₂) ∷ (slice, l₃) ∷ (tally-ty, l₄) ∷ (word, l₅) ∷ (tyBool, l₆) ∷ (word, l₇) ∷ (tyPtr, l₈) ∷ (worker-ty, l₉) ∷ []
 
-    -- the context at the head of the loop, where i workers are summed
+    -- the context at the head of the loop, where i workers are counted
     abbrev At : ℕ → List (Item 𝓤)
     At i = ‵ (row R q′ ys b o) ∷ ‵ (fobor κ q (arr-parts (shares R) (length ys) .part q′ ys b o)) ∷ ‵ (fshr-bor κ (λ s′. arr-parts (shares R) (length ys) .part s′ ys b o))
         ∷ ‵ ftrue ∷ ‵ (fres γ (codedHoleys R .code (heres R ys))) ∷ ‵ (at-slice R x (s ∷ []))
         ∷ ‵ (froom worker-ty l₉ 0) ∷ ‵ (fdies worker-ty l₉) ∷ ‵ (froom tyPtr l₈ 0) ∷ ‵ (fdies tyPtr l₈) ∷ ‵ (froom word l₇ 0) ∷ ‵ (fdies word l₇) ∷ ‵ (froom tyBool l₆ 0) ∷ ‵ (fdies tyBool l₆)
-        ∷ ‵ (fat fullShare word l₅ 0 (vint w64 i)) ∷ ‵ (fdies word l₅) ∷ ‵ (fat fullShare sum-ty l₄ 0 (sum-val (sum i))) ∷ ‵ (fdies sum-ty l₄)
+        ∷ ‵ (fat fullShare word l₅ 0 (vint w64 i)) ∷ ‵ (fdies word l₅) ∷ ‵ (fat fullShare tally-ty l₄ 0 (tally-val (sum i))) ∷ ‵ (fdies tally-ty l₄)
         ∷ ‵ (fat fullShare slice l₃ 0 s) ∷ ‵ (fdies slice l₃) ∷ ‵ (fat fullShare word l₂ 0 (vint w64 w)) ∷ ‵ (fdies word l₂) ∷ ‵ (fat fullShare word l₁ 0 (vint w64 share)) ∷ ‵ (fdies word l₁)
-        ∷ ‵ (froom sum-ty l₀ 0) ∷ ‵ (fdies sum-ty l₀) ∷ []
+        ∷ ‵ (froom promised-ty l₀ 0) ∷ ‵ (fdies promised-ty l₀) ∷ []
 
     -- when the loop is left, the rest of the body runs
     abbrev Left : Out → SProp 𝓤
@@ -161,10 +196,10 @@ module _ {M : Type 1} (𝓤 : URA M) (H : Heap 𝓤) (A : Atoms 𝓤) (W : Given
         elem-out ! R (Is R) (shows 𝓤 H A R) vals tells q′ ys i idle b o in-range (λ g.
         assigns ! (of-opd ! (load ! (from ! (hop ! (look ! 10 refl) (stop !))) (look-raw ! 0 refl))) (from ! (stop !)) (init ! 8 refl (lawful 𝓤 H A W .typed elem (vals elem) g .0)) $
         elem-back ! R q′ ys i idle (vals elem) b o in-range $
-        calls-plain ! fm owe-more.ended (owe-more.clauses 𝓤 H A mem run) (known .1) ((tt, tt, tt, (share, (sum i, (elem, tt))), (vint w64 share ∷ [], (sum-val (sum i) ∷ [], (vals elem, tt)))), tt) (λ r ws. r ≡ together (sum i) (owedPhase share (elem .phase))) (λ r ws. id⊢ 𝓤 _)
-        (qed W [] ∵ says ! (next-fits i (omega (arith, in-count, few))) $ nothing ! $ owned ! R (Is R) (makes 𝓤 H A) elem (vals elem) g $ fjoin ! $ owned ! Su.the-row (Is Su.the-row) (promised-makes 𝓤 H A) (sum i) (sum-val (sum i) ∷ []) (sum-is (sum i) (sum-fits i (omega (arith, in-count, few)))) $ fjoin ! $ owned ! u64 (Is u64) (uint-makes 𝓤 H A W w64) share _ (refl, gs) $ fjoin ! $ nothing ! $ done !) (and-then ! (load ! (from ! (stop !)) (look ! 23 refl)) (and-then ! (load ! (from ! (stop !)) (look ! 17 refl)) (and-then ! (load ! (from ! (stop !)) (look ! 7 refl)) (no-more !)))) (λ v r _ e′ is.
-        land ! (from ! (stop !)) (store ! 16 refl (promised-lawful 𝓤 H A W .typed r (v ∷ []) is .0)) $
-        rewrite ! 16 (λ (us : List Val). ‵ (fat fullShare sum-ty l₄ 0 (only us))) (sum-tells r (v ∷ []) is ∙ ap (λ (p : Promised). sum-val p ∷ []) (e′ ∙ promised-next share i ys)) refl $
+        calls-plain ! fm count-in.ended (count-in.clauses 𝓤 H A mem run) (known .1) ((tt, tt, tt, (share, (sum i, (elem, tt))), (vint w64 share ∷ [], (tally-val (sum i) ∷ [], (vals elem, tt)))), tt) (λ r ws. r ≡ counted share (sum i) (elem .phase)) (λ r ws. id⊢ 𝓤 _)
+        (qed W [] ∵ says ! (next-fits i (omega (arith, in-count, few))) $ nothing ! $ owned ! R (Is R) (makes 𝓤 H A) elem (vals elem) g $ fjoin ! $ owned ! Ta.the-row (Is Ta.the-row) (tally-makes 𝓤 H A) (sum i) (tally-val (sum i) ∷ []) (sum-is i (omega (arith, in-count, few))) $ fjoin ! $ owned ! u64 (Is u64) (uint-makes 𝓤 H A W w64) share _ (refl, gs) $ fjoin ! $ nothing ! $ done !) (and-then ! (load ! (from ! (stop !)) (look ! 23 refl)) (and-then ! (load ! (from ! (stop !)) (look ! 17 refl)) (and-then ! (load ! (from ! (stop !)) (look ! 7 refl)) (no-more !)))) (λ v r _ e′ is.
+        land ! (from ! (stop !)) (store ! 16 refl (tally-lawful 𝓤 H A W .typed r (v ∷ []) is .0)) $
+        rewrite ! 16 (λ (us : List Val). ‵ (fat fullShare tally-ty l₄ 0 (only us))) (tally-tells r (v ∷ []) is ∙ ap (λ (t : Tally). tally-val t ∷ []) e′) refl $
         assigns-last ! (bin ! (load ! (from ! (stop !)) (look ! 14 refl)) (lit ! tt) (record { fits = omega (arith, in-count, gw) })) (from ! (stop !)) (store ! 14 refl (tt, record { fits = omega (arith, in-count, gw) })) $
         forget ! 6 refl $ forget ! 8 refl $ forget ! 10 refl $ forget ! 12 refl $ rewrite ! 14 (λ (j : ℕ). ‵ (fat fullShare word l₅ 0 (vint w64 j))) (add-one i) refl $ k))
       where
@@ -181,14 +216,17 @@ module _ {M : Type 1} (𝓤 : URA M) (H : Heap 𝓤) (A : Atoms 𝓤) (W : Given
     ends : (X : SProp 𝓤) → ltb w w ≡ false → Sq W (At w) (runs C Λ En mir.turn-1 (anyQ (afterTurn 𝓤 H X Left)))
     unfolding afterTurn
     ends X e =
+        let fm = fmOf 𝓤 H (W .laws) 𝓣 in
         assigns ! (bin ! (load ! (from ! (stop !)) (look ! 14 refl)) (load ! (from ! (stop !)) (look ! 20 refl)) tt) (from ! (stop !)) (init ! 12 refl (tt, tt)) $
         rewrite ! 12 (λ (t : Bool). ‵ (fat fullShare tyBool l₆ 0 (vbool t))) e refl $
         leaves-loop ! (load ! (from ! (stop !)) (look ! 12 refl)) $ exec ! C Λ En mir.t-4 (atRet En Post) $
-        assigns ! (of-opd ! (load ! (from ! (stop !)) (look ! 16 refl))) (from ! (stop !)) (init ! 24 refl (promised-lawful 𝓤 H A W .typed (sum w) (sum-val (sum w) ∷ []) (sum-is (sum w) (sum-fits w few)) .0)) $
+        calls-plain ! fm still-due.ended (still-due.clauses 𝓤 H A mem run) (known .2) ((tt, tt, tt, (share, (sum w, tt)), (vint w64 share ∷ [], (tally-val (sum w) ∷ [], tt))), tt) (λ r ws. r ≡ stillDue share (sum w)) (λ r ws. id⊢ 𝓤 _)
+        (qed W [] ∵ says ! (due-fits, tally-within share w ys) $ nothing ! $ owned ! Ta.the-row (Is Ta.the-row) (tally-makes 𝓤 H A) (sum w) (tally-val (sum w) ∷ []) (sum-is w few) $ fjoin ! $ owned ! u64 (Is u64) (uint-makes 𝓤 H A W w64) share _ (refl, gs) $ fjoin ! $ nothing ! $ done !) (and-then ! (load ! (from ! (stop !)) (look ! 23 refl)) (and-then ! (load ! (from ! (stop !)) (look ! 17 refl)) (no-more !))) (λ v r _ e′ is.
+        land ! (from ! (stop !)) (init ! 24 refl (promised-lawful 𝓤 H A W .typed r (v ∷ []) is .0)) $
         shuts-slice ! tt R q′ ys b o $
         returns ! (look ! 23 refl) $ forget ! 11 refl $ forget ! 13 refl $ forget ! 15 refl $ forget ! 17 refl $ forget ! 19 refl $ forget ! 21 refl $ forget ! 23 refl $
         move ! (23 ∷ 24 ∷ []) $ free1 ! $ move ! (21 ∷ 22 ∷ []) $ free1 ! $ move ! (19 ∷ 20 ∷ []) $ free1 ! $ move ! (17 ∷ 18 ∷ []) $ free1 ! $ move ! (15 ∷ 16 ∷ []) $ free1 ! $ move ! (13 ∷ 14 ∷ []) $ free1 ! $ move ! (11 ∷ 12 ∷ []) $ free1 ! $ move ! (9 ∷ 10 ∷ []) $ free1 ! $ move ! (7 ∷ 8 ∷ []) $ free1 ! $ move ! (5 ∷ 6 ∷ []) $ free1 ! $ free0 ! $
-        move ! (3 ∷ 1 ∷ []) $ fjoin ! $ move ! (3 ∷ []) $ fjoin ! $ keep ! (1 ∷ 0 ∷ []) $ by ! exits
+        move ! (3 ∷ 1 ∷ []) $ fjoin ! $ move ! (3 ∷ []) $ fjoin ! $ keep ! (1 ∷ 0 ∷ []) $ by ! (exits v r (e′ ∙ promised-by-tally share w ys small) is))
 
     -- where t are left
     abbrev Inv : ℕ → List (Item 𝓤)
@@ -215,10 +253,10 @@ module _ {M : Type 1} (𝓤 : URA M) (H : Heap 𝓤) (A : Atoms 𝓤) (W : Given
       qed W ((‵ (flft κ q) ⊛ ‵ ftrue) ∷ ‵ (owns (u64 ∷ usize ∷ ShrSlice (named 0) κ R ∷ []) a at) ∷ []) ∵ enter ! (𝓣 .C) (𝓣 .Λ) code.function (vint w64 share ∷ vint w64 w ∷ s ∷ []) _ $
       alloc1 ! (λ l₀. alloc1 ! (λ l₁. alloc1 ! (λ l₂. alloc1 ! (λ l₃. alloc1 ! (λ l₄. alloc1 ! (λ l₅. alloc1 ! (λ l₆. alloc1 ! (λ l₇. alloc1 ! (λ l₈. alloc1 ! (λ l₉. alloc0 ! $ params1 ! $
       pass1 ! (init ! 16 refl (tt, record { fits = gs })) $ pass1 ! (init ! 14 refl (tt, record { fits = gw })) $ pass1 ! (init ! 12 refl (tt, (tt, (record { fits = room .0 }, tt)))) $ pass0 ! $
-      calls-plain ! fm nothing-yet.ended (nothing-yet.clauses 𝓤 H A mem run) (known .0) ((tt, tt, tt, tt, tt), tt) (λ r ws. r ≡ Promised.Of 0) (λ r ws. id⊢ 𝓤 _)
+      calls-plain ! fm nothing-yet.ended (nothing-yet.clauses 𝓤 H A mem run) (known .0) ((tt, tt, tt, tt, tt), tt) (λ r ws. r ≡ none) (λ r ws. id⊢ 𝓤 _)
       (qed W [] ∵ nothing ! $ nothing ! $ join ! $ frame ! $ done !) (no-more !) (λ v r _ e is.
-      land ! (from ! (stop !)) (init ! 10 refl (promised-lawful 𝓤 H A W .typed r (v ∷ []) is .0)) $
-      rewrite ! 10 (λ (us : List Val). ‵ (fat fullShare sum-ty l₄ 0 (only us))) (sum-tells r (v ∷ []) is ∙ ap (λ (p : Promised). sum-val p ∷ []) e) refl $
+      land ! (from ! (stop !)) (init ! 10 refl (tally-lawful 𝓤 H A W .typed r (v ∷ []) is .0)) $
+      rewrite ! 10 (λ (us : List Val). ‵ (fat fullShare tally-ty l₄ 0 (only us))) (tally-tells r (v ∷ []) is ∙ ap (λ (t : Tally). tally-val t ∷ []) e) refl $
       assigns ! (of-opd ! (lit ! tt)) (from ! (stop !)) (init ! 8 refl (tt, record { fits = lit< tt })) $
       move ! (21 ∷ []) $ fsplit ! $ drop ! $ fsplit ! $ drop ! $ fsplit ! $ fsplit ! $ move ! (1 ∷ []) $ fsplit ! $ move ! (24 ∷ []) $ split ! $ move ! (1 ∷ []) $ drop ! $ move ! (2 ∷ []) $
       looks-slice ! tt R (Is R) (shows 𝓤 H A R) vals tells (copies 𝓤 H A W) ys b o (λ q′. move ! (0 ∷ 1 ∷ 2 ∷ 5 ∷ []) $ first ! $ blocks ! $ looped 𝓣 known q′ l₀ l₁ l₂ l₃ l₄ l₅ l₆ l₇ l₈ l₉))))))))))))
@@ -243,5 +281,6 @@ promised-spec 𝓤 H 𝓜 𝓖 𝓡 =
     (tables 𝓤 H 𝓜 𝓡 code.env .C) (tables 𝓤 H 𝓜 𝓡 code.env .Λ) #promised code.function (code.unfolded 𝓤 H 𝓜 𝓡)
     (f-meets 𝓤 H (𝓖 .A) (givenOf 𝓤 H 𝓜 𝓖) (𝓜 .mem) (𝓡 .run) (tablesOf 𝓤 H 𝓜 (tables 𝓤 H 𝓜 𝓡 code.env)) (
       cited 𝓤 H (contractOf 𝓤 H (𝓖 .A) nothing-yet.ended (nothing-yet.clauses 𝓤 H (𝓖 .A) (𝓜 .mem) (𝓡 .run))) 𝓜 𝓡 code.env #nothing-yet nothing-yet-def.routine code.calls-board·promising·nothing (nothing-yet-thm.met 𝓤 H 𝓜 𝓖 𝓡),
-      cited 𝓤 H (contractOf 𝓤 H (𝓖 .A) owe-more.ended (owe-more.clauses 𝓤 H (𝓖 .A) (𝓜 .mem) (𝓡 .run))) 𝓜 𝓡 code.env #owe-more owe-more-def.routine code.calls-board·promising·owe-more (owe-more-thm.met 𝓤 H 𝓜 𝓖 𝓡),
+      cited 𝓤 H (contractOf 𝓤 H (𝓖 .A) count-in.ended (count-in.clauses 𝓤 H (𝓖 .A) (𝓜 .mem) (𝓡 .run))) 𝓜 𝓡 code.env #count-in count-in-def.routine code.calls-board·promising·count-in (count-in-thm.met 𝓤 H 𝓜 𝓖 𝓡),
+      cited 𝓤 H (contractOf 𝓤 H (𝓖 .A) still-due.ended (still-due.clauses 𝓤 H (𝓖 .A) (𝓜 .mem) (𝓡 .run))) 𝓜 𝓡 code.env #still-due still-due-def.routine code.calls-board·promising·still-due (still-due-thm.met 𝓤 H 𝓜 𝓖 𝓡),
     ))

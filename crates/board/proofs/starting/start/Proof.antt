@@ -60,15 +60,15 @@ use Rattle.trie.proofs.Operation.Laws as Op′
 use Rattle.trie.proofs.Begun as Be
 use Rattle.board.specs.Promising.{mostShare}
 use Rattle.board.specs.PromisingLaws.{share-small}
-use Rattle.board.specs.JudgingLaws.{judgedOf, seated, start-seated, start-refused}
+use Rattle.judging.specs.JudgingLaws.{judgedOf, seated, start-seated, start-refused}
 use Rattle.board.proofs.Callee.{contractOf, Last, leaves, asks-none, calls-told, calls-plain, calls-plain-last}
 use Rattle.board.proofs.Tests.{is-true, is-false}
 use Rattle.board.proofs.Shared.{at-list, calls-shared}
 use Rattle.board.proofs.Elem.{R, vals, tells, makes, lawful, bytes, step-fits, begun-makes, begun-lawful, accepted-makes, accepted-lawful, promised-makes, promised-lawful, operation-makes, operation-lawful}
-use Rattle.board.proofs.judging.judge as judge
-use Rattle.board.proofs.judging.judge.Symbol as judge-def
-use Rattle.board.proofs.judging.judge.Symbol.{name as #judge}
-use Rattle.board.proofs.judging.judge.Met as judge-thm
+use Rattle.judging.proofs.judge as judge
+use Rattle.judging.proofs.judge.Symbol as judge-def
+use Rattle.judging.proofs.judge.Symbol.{name as #judge}
+use Rattle.judging.proofs.judge.Met as judge-thm
 use Rattle.board.proofs.promising.share as share
 use Rattle.board.proofs.promising.share.Symbol as share-def
 use Rattle.board.proofs.promising.share.Symbol.{name as #share}
@@ -298,7 +298,7 @@ start-spec 𝓤 H 𝓜 𝓖 𝓡 =
     entered 𝓤 H (tripleOf 𝓤 H (𝓖 .A) f.signature (f.spec 𝓤 H (𝓖 .A) (𝓜 .mem) (𝓡 .run)))
     (tables 𝓤 H 𝓜 𝓡 code.env .C) (tables 𝓤 H 𝓜 𝓡 code.env .Λ) #start code.function (code.unfolded 𝓤 H 𝓜 𝓡)
     (f-meets 𝓤 H (𝓖 .A) (givenOf 𝓤 H 𝓜 𝓖) (𝓜 .mem) (𝓡 .run) (tablesOf 𝓤 H 𝓜 (tables 𝓤 H 𝓜 𝓡 code.env)) (
-      cited 𝓤 H (contractOf 𝓤 H (𝓖 .A) judge.ended (judge.clauses 𝓤 H (𝓖 .A) (𝓜 .mem) (𝓡 .run))) 𝓜 𝓡 code.env #judge judge-def.routine code.calls-board·judging·judge (judge-thm.met 𝓤 H 𝓜 𝓖 𝓡),
+      cited 𝓤 H (contractOf 𝓤 H (𝓖 .A) judge.ended (judge.clauses 𝓤 H (𝓖 .A) (𝓜 .mem) (𝓡 .run))) 𝓜 𝓡 code.env #judge judge-def.routine code.calls-judging·judge (judge-thm.met 𝓤 H 𝓜 𝓖 𝓡),
       cited 𝓤 H (contractOf 𝓤 H (𝓖 .A) share.ended (share.clauses 𝓤 H (𝓖 .A) (𝓜 .mem) (𝓡 .run))) 𝓜 𝓡 code.env #share share-def.routine code.calls-board·promising·share (share-thm.met 𝓤 H 𝓜 𝓖 𝓡),
       cited 𝓤 H (contractOf 𝓤 H (𝓖 .A) promised.ended (promised.clauses 𝓤 H (𝓖 .A) (𝓜 .mem) (𝓡 .run))) 𝓜 𝓡 code.env #promised promised-def.routine code.calls-board·promising·promised (promised-thm.met 𝓤 H 𝓜 𝓖 𝓡),
       cited 𝓤 H (contractOf 𝓤 H (𝓖 .A) start-record.ended (start-record.clauses 𝓤 H (𝓖 .A) (𝓜 .mem) (𝓡 .run))) 𝓜 𝓡 code.env #start-record start-record-def.routine code.calls-steps·start-record (start-record-thm.met 𝓤 H 𝓜 𝓖 𝓡),

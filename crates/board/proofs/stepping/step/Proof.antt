@@ -49,8 +49,8 @@ use Rattle.trie.specs.Stepping.{planOf, carryOf}
 use Rattle.trie.specs.Calls.{after, state, stepAt, stepOf}
 use Rattle.trie.proofs.Bounds as Bo
 use Rattle.trie.proofs.Progress as Pr
-use Rattle.board.specs.Judging.{judgeRecordOf}
-use Rattle.board.specs.JudgingLaws.{judgedOf}
+use Rattle.judging.specs.Judging.{judgeRecordOf}
+use Rattle.judging.specs.JudgingLaws.{judgedOf}
 use Rattle.board.proofs.Callee.{contractOf, asks, asks-none, calls-told, calls-plain}
 use Rattle.board.proofs.Bodies.{then-of, ty-at}
 use Rattle.board.proofs.GivenUp.{gives-up}
@@ -59,22 +59,22 @@ use Rattle.board.proofs.Lends.{shares-on, ceases-on}
 use Rattle.board.proofs.Elements.{takes-out, puts-in}
 use Rattle.board.proofs.Elem.{R, mach, vals, tells, makes, lawful, bytes, step-fits, bounds-makes, progress-makes, bounds-lawful, progress-lawful}
 use Rattle.board.proofs.Steps.{steps-none, sits, steps-damaged, steps-within, steps-on}
-use Rattle.board.proofs.judging.judge as judge
-use Rattle.board.proofs.judging.judge.Symbol as judge-def
-use Rattle.board.proofs.judging.judge.Symbol.{name as #judge}
-use Rattle.board.proofs.judging.judge.Met as judge-thm
+use Rattle.judging.proofs.judge as judge
+use Rattle.judging.proofs.judge.Symbol as judge-def
+use Rattle.judging.proofs.judge.Symbol.{name as #judge}
+use Rattle.judging.proofs.judge.Met as judge-thm
 use Rattle.board.proofs.carrying.refuse as refuse
 use Rattle.board.proofs.carrying.refuse.Symbol as refuse-def
 use Rattle.board.proofs.carrying.refuse.Symbol.{name as #refuse}
 use Rattle.board.proofs.carrying.refuse.Met as refuse-thm
-use Rattle.board.proofs.judging.judge_record as judge-record
-use Rattle.board.proofs.judging.judge_record.Symbol as judge-record-def
-use Rattle.board.proofs.judging.judge_record.Symbol.{name as #judge-record}
-use Rattle.board.proofs.judging.judge_record.Met as judge-record-thm
-use Rattle.tables.proofs.bounds as bounds-of
-use Rattle.tables.proofs.bounds.Symbol as bounds-of-def
-use Rattle.tables.proofs.bounds.Symbol.{name as #bounds-of}
-use Rattle.tables.proofs.bounds.Met as bounds-of-thm
+use Rattle.judging.proofs.judge_record as judge-record
+use Rattle.judging.proofs.judge_record.Symbol as judge-record-def
+use Rattle.judging.proofs.judge_record.Symbol.{name as #judge-record}
+use Rattle.judging.proofs.judge_record.Met as judge-record-thm
+use Rattle.sound.proofs.bounds as bounds-of
+use Rattle.sound.proofs.bounds.Symbol as bounds-of-def
+use Rattle.sound.proofs.bounds.Symbol.{name as #bounds-of}
+use Rattle.sound.proofs.bounds.Met as bounds-of-thm
 use Rattle.board.proofs.stepping.turn as turn
 use Rattle.board.proofs.stepping.turn.Symbol as turn-def
 use Rattle.board.proofs.stepping.turn.Symbol.{name as #turn}
@@ -301,9 +301,9 @@ step-spec 𝓤 H 𝓜 𝓖 𝓡 =
     entered 𝓤 H (tripleOf 𝓤 H (𝓖 .A) f.signature (f.spec 𝓤 H (𝓖 .A) (𝓜 .mem) (𝓡 .run)))
     (tables 𝓤 H 𝓜 𝓡 code.env .C) (tables 𝓤 H 𝓜 𝓡 code.env .Λ) #step code.function (code.unfolded 𝓤 H 𝓜 𝓡)
     (f-meets 𝓤 H (𝓖 .A) (givenOf 𝓤 H 𝓜 𝓖) (𝓜 .mem) (𝓡 .run) (tablesOf 𝓤 H 𝓜 (tables 𝓤 H 𝓜 𝓡 code.env)) (
-      cited 𝓤 H (contractOf 𝓤 H (𝓖 .A) judge.ended (judge.clauses 𝓤 H (𝓖 .A) (𝓜 .mem) (𝓡 .run))) 𝓜 𝓡 code.env #judge judge-def.routine code.calls-board·judging·judge (judge-thm.met 𝓤 H 𝓜 𝓖 𝓡),
+      cited 𝓤 H (contractOf 𝓤 H (𝓖 .A) judge.ended (judge.clauses 𝓤 H (𝓖 .A) (𝓜 .mem) (𝓡 .run))) 𝓜 𝓡 code.env #judge judge-def.routine code.calls-judging·judge (judge-thm.met 𝓤 H 𝓜 𝓖 𝓡),
       cited 𝓤 H (contractOf 𝓤 H (𝓖 .A) refuse.ended (refuse.clauses 𝓤 H (𝓖 .A) (𝓜 .mem) (𝓡 .run))) 𝓜 𝓡 code.env #refuse refuse-def.routine code.calls-board·carrying·refuse (refuse-thm.met 𝓤 H 𝓜 𝓖 𝓡),
-      cited 𝓤 H (contractOf 𝓤 H (𝓖 .A) judge-record.ended (judge-record.clauses 𝓤 H (𝓖 .A) (𝓜 .mem) (𝓡 .run))) 𝓜 𝓡 code.env #judge-record judge-record-def.routine code.calls-board·judging·judge-record (judge-record-thm.met 𝓤 H 𝓜 𝓖 𝓡),
-      cited 𝓤 H (contractOf 𝓤 H (𝓖 .A) bounds-of.ended (bounds-of.clauses 𝓤 H (𝓖 .A) (𝓜 .mem) (𝓡 .run))) 𝓜 𝓡 code.env #bounds-of bounds-of-def.routine code.calls-tables·bounds (bounds-of-thm.met 𝓤 H 𝓜 𝓖 𝓡),
+      cited 𝓤 H (contractOf 𝓤 H (𝓖 .A) judge-record.ended (judge-record.clauses 𝓤 H (𝓖 .A) (𝓜 .mem) (𝓡 .run))) 𝓜 𝓡 code.env #judge-record judge-record-def.routine code.calls-judging·judge-record (judge-record-thm.met 𝓤 H 𝓜 𝓖 𝓡),
+      cited 𝓤 H (contractOf 𝓤 H (𝓖 .A) bounds-of.ended (bounds-of.clauses 𝓤 H (𝓖 .A) (𝓜 .mem) (𝓡 .run))) 𝓜 𝓡 code.env #bounds-of bounds-of-def.routine code.calls-sound·bounds (bounds-of-thm.met 𝓤 H 𝓜 𝓖 𝓡),
       cited 𝓤 H (contractOf 𝓤 H (𝓖 .A) turn.ended (turn.clauses 𝓤 H (𝓖 .A) (𝓜 .mem) (𝓡 .run))) 𝓜 𝓡 code.env #turn turn-def.routine code.calls-board·stepping·turn (turn-thm.met 𝓤 H 𝓜 𝓖 𝓡),
     ))

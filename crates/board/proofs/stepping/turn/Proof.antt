@@ -62,10 +62,10 @@ use Rattle.board.proofs.Elements.{takes-out, puts-in}
 use Rattle.board.proofs.Elem.{R, mach, vals, tells, makes, lawful, bytes, step-fits, bounds-val, bounds-makes, plan-makes, progress-makes, bounds-lawful, plan-lawful, progress-lawful}
 use Rattle.board.proofs.Tests.{holds, fails}
 use Rattle.board.proofs.Carries.{turns-none, turns-by}
-use Rattle.tables.proofs.is_used_sound as is-used-sound
-use Rattle.tables.proofs.is_used_sound.Symbol as is-used-sound-def
-use Rattle.tables.proofs.is_used_sound.Symbol.{name as #is-used-sound}
-use Rattle.tables.proofs.is_used_sound.Met as is-used-sound-thm
+use Rattle.sound.proofs.is_used_sound as is-used-sound
+use Rattle.sound.proofs.is_used_sound.Symbol as is-used-sound-def
+use Rattle.sound.proofs.is_used_sound.Symbol.{name as #is-used-sound}
+use Rattle.sound.proofs.is_used_sound.Met as is-used-sound-thm
 use Rattle.board.proofs.carrying.refuse as refuse
 use Rattle.board.proofs.carrying.refuse.Symbol as refuse-def
 use Rattle.board.proofs.carrying.refuse.Symbol.{name as #refuse}
@@ -407,7 +407,7 @@ turn-spec 𝓤 H 𝓜 𝓖 𝓡 =
     entered 𝓤 H (tripleOf 𝓤 H (𝓖 .A) f.signature (f.spec 𝓤 H (𝓖 .A) (𝓜 .mem) (𝓡 .run)))
     (tables 𝓤 H 𝓜 𝓡 code.env .C) (tables 𝓤 H 𝓜 𝓡 code.env .Λ) #turn code.function (code.unfolded 𝓤 H 𝓜 𝓡)
     (f-meets 𝓤 H (𝓖 .A) (givenOf 𝓤 H 𝓜 𝓖) (𝓜 .mem) (𝓡 .run) (tablesOf 𝓤 H 𝓜 (tables 𝓤 H 𝓜 𝓡 code.env)) (
-      cited 𝓤 H (contractOf 𝓤 H (𝓖 .A) is-used-sound.ended (is-used-sound.clauses 𝓤 H (𝓖 .A) (𝓜 .mem) (𝓡 .run))) 𝓜 𝓡 code.env #is-used-sound is-used-sound-def.routine code.calls-tables·is-used-sound (is-used-sound-thm.met 𝓤 H 𝓜 𝓖 𝓡),
+      cited 𝓤 H (contractOf 𝓤 H (𝓖 .A) is-used-sound.ended (is-used-sound.clauses 𝓤 H (𝓖 .A) (𝓜 .mem) (𝓡 .run))) 𝓜 𝓡 code.env #is-used-sound is-used-sound-def.routine code.calls-sound·is-used-sound (is-used-sound-thm.met 𝓤 H 𝓜 𝓖 𝓡),
       cited 𝓤 H (contractOf 𝓤 H (𝓖 .A) refuse.ended (refuse.clauses 𝓤 H (𝓖 .A) (𝓜 .mem) (𝓡 .run))) 𝓜 𝓡 code.env #refuse refuse-def.routine code.calls-board·carrying·refuse (refuse-thm.met 𝓤 H 𝓜 𝓖 𝓡),
       cited 𝓤 H (contractOf 𝓤 H (𝓖 .A) is-refreshing.ended (is-refreshing.clauses 𝓤 H (𝓖 .A) (𝓜 .mem) (𝓡 .run))) 𝓜 𝓡 code.env #is-refreshing is-refreshing-def.routine code.calls-board·planning·is-refreshing (is-refreshing-thm.met 𝓤 H 𝓜 𝓖 𝓡),
       cited 𝓤 H (contractOf 𝓤 H (𝓖 .A) is-at-leaf.ended (is-at-leaf.clauses 𝓤 H (𝓖 .A) (𝓜 .mem) (𝓡 .run))) 𝓜 𝓡 code.env #is-at-leaf is-at-leaf-def.routine code.calls-board·planning·is-at-leaf (is-at-leaf-thm.met 𝓤 H 𝓜 𝓖 𝓡),

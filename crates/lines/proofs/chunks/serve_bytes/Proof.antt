@@ -61,10 +61,10 @@ use Rattle.lines.proofs.chunks.serve_lines as serve-lines
 use Rattle.lines.proofs.chunks.serve_lines.Symbol as serve-lines-def
 use Rattle.lines.proofs.chunks.serve_lines.Symbol.{name as #serve-lines}
 use Rattle.lines.proofs.chunks.serve_lines.Met as serve-lines-thm
-use Rattle.lines.proofs.chunks.close as close
-use Rattle.lines.proofs.chunks.close.Symbol as close-def
-use Rattle.lines.proofs.chunks.close.Symbol.{name as #close}
-use Rattle.lines.proofs.chunks.close.Met as close-thm
+use Rattle.lines.proofs.keeping.close as close
+use Rattle.lines.proofs.keeping.close.Symbol as close-def
+use Rattle.lines.proofs.keeping.close.Symbol.{name as #close}
+use Rattle.lines.proofs.keeping.close.Met as close-thm
 use Rattle.lines.proofs.chunks.served as served
 use Rattle.lines.proofs.chunks.served.Symbol as served-def
 use Rattle.lines.proofs.chunks.served.Symbol.{name as #served}
@@ -241,6 +241,6 @@ serve-bytes-spec 𝓤 H 𝓜 𝓖 𝓡 =
     (tables 𝓤 H 𝓜 𝓡 code.env .C) (tables 𝓤 H 𝓜 𝓡 code.env .Λ) #serve-bytes code.function (code.unfolded 𝓤 H 𝓜 𝓡)
     (f-meets 𝓤 H (𝓖 .A) (givenOf 𝓤 H 𝓜 𝓖) (𝓜 .mem) (𝓡 .run) (tablesOf 𝓤 H 𝓜 (tables 𝓤 H 𝓜 𝓡 code.env)) (
       cited 𝓤 H (contractOf 𝓤 H (𝓖 .A) serve-lines.ended (serve-lines.clauses 𝓤 H (𝓖 .A) (𝓜 .mem) (𝓡 .run))) 𝓜 𝓡 code.env #serve-lines serve-lines-def.routine code.calls-lines·chunks·serve-lines (serve-lines-thm.met 𝓤 H 𝓜 𝓖 𝓡),
-      cited 𝓤 H (contractOf 𝓤 H (𝓖 .A) close.ended (close.clauses 𝓤 H (𝓖 .A) (𝓜 .mem) (𝓡 .run))) 𝓜 𝓡 code.env #close close-def.routine code.calls-lines·chunks·close (close-thm.met 𝓤 H 𝓜 𝓖 𝓡),
+      cited 𝓤 H (contractOf 𝓤 H (𝓖 .A) close.ended (close.clauses 𝓤 H (𝓖 .A) (𝓜 .mem) (𝓡 .run))) 𝓜 𝓡 code.env #close close-def.routine code.calls-lines·keeping·close (close-thm.met 𝓤 H 𝓜 𝓖 𝓡),
       cited 𝓤 H (contractOf 𝓤 H (𝓖 .A) served.ended (served.clauses 𝓤 H (𝓖 .A) (𝓜 .mem) (𝓡 .run))) 𝓜 𝓡 code.env #served served-def.routine code.calls-lines·chunks·served (served-thm.met 𝓤 H 𝓜 𝓖 𝓡),
     ))

@@ -68,47 +68,47 @@ use Rattle.board.proofs.GivenUp.{gives-up}
 use Rattle.board.proofs.Shared.{at-list}
 use Rattle.board.proofs.Lends.{lends-on, takes-on}
 use Rattle.lines.proofs.Rows.{ty-at, ty-spelled, R, history-val, begun-val, line-makes, begun-makes, history-makes, place-makes, run-makes, turn-makes, line-lawful, begun-lawful, history-lawful, place-lawful, run-lawful, turn-lawful}
-use Rattle.lines.proofs.Runs.{roomy-still, run-by, run-from, on-opened, none-yet, one-more, run-begins, run-steady, runs-behind}
-use Rattle.lines.proofs.chunks.first_place as first-place
-use Rattle.lines.proofs.chunks.first_place.Symbol as first-place-def
-use Rattle.lines.proofs.chunks.first_place.Symbol.{name as #first-place}
-use Rattle.lines.proofs.chunks.first_place.Met as first-place-thm
-use Rattle.lines.proofs.chunks.is_ended as is-ended
-use Rattle.lines.proofs.chunks.is_ended.Symbol as is-ended-def
-use Rattle.lines.proofs.chunks.is_ended.Symbol.{name as #is-ended}
-use Rattle.lines.proofs.chunks.is_ended.Met as is-ended-thm
-use Rattle.lines.proofs.chunks.first_run as first-run
-use Rattle.lines.proofs.chunks.first_run.Symbol as first-run-def
-use Rattle.lines.proofs.chunks.first_run.Symbol.{name as #first-run}
-use Rattle.lines.proofs.chunks.first_run.Met as first-run-thm
-use Rattle.lines.proofs.chunks.is_on as is-on
-use Rattle.lines.proofs.chunks.is_on.Symbol as is-on-def
-use Rattle.lines.proofs.chunks.is_on.Symbol.{name as #is-on}
-use Rattle.lines.proofs.chunks.is_on.Met as is-on-thm
-use Rattle.lines.proofs.chunks.history_at as history-at
-use Rattle.lines.proofs.chunks.history_at.Symbol as history-at-def
-use Rattle.lines.proofs.chunks.history_at.Symbol.{name as #history-at}
-use Rattle.lines.proofs.chunks.history_at.Met as history-at-thm
-use Rattle.lines.proofs.chunks.serve_steps as serve-steps
-use Rattle.lines.proofs.chunks.serve_steps.Symbol as serve-steps-def
-use Rattle.lines.proofs.chunks.serve_steps.Symbol.{name as #serve-steps}
-use Rattle.lines.proofs.chunks.serve_steps.Met as serve-steps-thm
-use Rattle.lines.proofs.chunks.place_after as place-after
-use Rattle.lines.proofs.chunks.place_after.Symbol as place-after-def
-use Rattle.lines.proofs.chunks.place_after.Symbol.{name as #place-after}
-use Rattle.lines.proofs.chunks.place_after.Met as place-after-thm
-use Rattle.lines.proofs.chunks.next_line as next-line
-use Rattle.lines.proofs.chunks.next_line.Symbol as next-line-def
-use Rattle.lines.proofs.chunks.next_line.Symbol.{name as #next-line}
-use Rattle.lines.proofs.chunks.next_line.Met as next-line-thm
+use Rattle.lines.proofs.RunLaws.{roomy-still, run-by, run-from, on-opened, none-yet, one-more, run-begins, run-steady, runs-behind}
+use Rattle.lines.proofs.places.first_place as first-place
+use Rattle.lines.proofs.places.first_place.Symbol as first-place-def
+use Rattle.lines.proofs.places.first_place.Symbol.{name as #first-place}
+use Rattle.lines.proofs.places.first_place.Met as first-place-thm
+use Rattle.lines.proofs.places.is_ended as is-ended
+use Rattle.lines.proofs.places.is_ended.Symbol as is-ended-def
+use Rattle.lines.proofs.places.is_ended.Symbol.{name as #is-ended}
+use Rattle.lines.proofs.places.is_ended.Met as is-ended-thm
+use Rattle.lines.proofs.runs.first_run as first-run
+use Rattle.lines.proofs.runs.first_run.Symbol as first-run-def
+use Rattle.lines.proofs.runs.first_run.Symbol.{name as #first-run}
+use Rattle.lines.proofs.runs.first_run.Met as first-run-thm
+use Rattle.lines.proofs.runs.is_on as is-on
+use Rattle.lines.proofs.runs.is_on.Symbol as is-on-def
+use Rattle.lines.proofs.runs.is_on.Symbol.{name as #is-on}
+use Rattle.lines.proofs.runs.is_on.Met as is-on-thm
+use Rattle.lines.proofs.places.history_at as history-at
+use Rattle.lines.proofs.places.history_at.Symbol as history-at-def
+use Rattle.lines.proofs.places.history_at.Symbol.{name as #history-at}
+use Rattle.lines.proofs.places.history_at.Met as history-at-thm
+use Rattle.lines.proofs.runs.serve_steps as serve-steps
+use Rattle.lines.proofs.runs.serve_steps.Symbol as serve-steps-def
+use Rattle.lines.proofs.runs.serve_steps.Symbol.{name as #serve-steps}
+use Rattle.lines.proofs.runs.serve_steps.Met as serve-steps-thm
+use Rattle.lines.proofs.places.place_after as place-after
+use Rattle.lines.proofs.places.place_after.Symbol as place-after-def
+use Rattle.lines.proofs.places.place_after.Symbol.{name as #place-after}
+use Rattle.lines.proofs.places.place_after.Met as place-after-thm
+use Rattle.lines.proofs.places.next_line as next-line
+use Rattle.lines.proofs.places.next_line.Symbol as next-line-def
+use Rattle.lines.proofs.places.next_line.Symbol.{name as #next-line}
+use Rattle.lines.proofs.places.next_line.Met as next-line-thm
 use Rattle.lines.proofs.turns.take_turn as take-turn
 use Rattle.lines.proofs.turns.take_turn.Symbol as take-turn-def
 use Rattle.lines.proofs.turns.take_turn.Symbol.{name as #take-turn}
 use Rattle.lines.proofs.turns.take_turn.Met as take-turn-thm
-use Rattle.lines.proofs.chunks.go_on as go-on
-use Rattle.lines.proofs.chunks.go_on.Symbol as go-on-def
-use Rattle.lines.proofs.chunks.go_on.Symbol.{name as #go-on}
-use Rattle.lines.proofs.chunks.go_on.Met as go-on-thm
+use Rattle.lines.proofs.places.go_on as go-on
+use Rattle.lines.proofs.places.go_on.Symbol as go-on-def
+use Rattle.lines.proofs.places.go_on.Symbol.{name as #go-on}
+use Rattle.lines.proofs.places.go_on.Met as go-on-thm
 use Rattle.lines.proofs.chunks.serve_lines.Key.{name as #serve-lines}
 use Rattle.lines.proofs.chunks.serve_lines as f
 use Rattle.lines.proofs.chunks.serve_lines.Statement as stated
@@ -523,14 +523,14 @@ serve-lines-spec 𝓤 H 𝓜 𝓖 𝓡 =
     entered 𝓤 H (tripleOf 𝓤 H (𝓖 .A) f.signature (f.spec 𝓤 H (𝓖 .A) (𝓜 .mem) (𝓡 .run)))
     (tables 𝓤 H 𝓜 𝓡 code.env .C) (tables 𝓤 H 𝓜 𝓡 code.env .Λ) #serve-lines code.function (code.unfolded 𝓤 H 𝓜 𝓡)
     (f-meets 𝓤 H (𝓖 .A) (givenOf 𝓤 H 𝓜 𝓖) (𝓜 .mem) (𝓡 .run) (tablesOf 𝓤 H 𝓜 (tables 𝓤 H 𝓜 𝓡 code.env)) (
-      cited 𝓤 H (contractOf 𝓤 H (𝓖 .A) first-place.ended (first-place.clauses 𝓤 H (𝓖 .A) (𝓜 .mem) (𝓡 .run))) 𝓜 𝓡 code.env #first-place first-place-def.routine code.calls-lines·chunks·first-place (first-place-thm.met 𝓤 H 𝓜 𝓖 𝓡),
-      cited 𝓤 H (contractOf 𝓤 H (𝓖 .A) is-ended.ended (is-ended.clauses 𝓤 H (𝓖 .A) (𝓜 .mem) (𝓡 .run))) 𝓜 𝓡 code.env #is-ended is-ended-def.routine code.calls-lines·chunks·is-ended (is-ended-thm.met 𝓤 H 𝓜 𝓖 𝓡),
-      cited 𝓤 H (contractOf 𝓤 H (𝓖 .A) first-run.ended (first-run.clauses 𝓤 H (𝓖 .A) (𝓜 .mem) (𝓡 .run))) 𝓜 𝓡 code.env #first-run first-run-def.routine code.calls-lines·chunks·first-run (first-run-thm.met 𝓤 H 𝓜 𝓖 𝓡),
-      cited 𝓤 H (contractOf 𝓤 H (𝓖 .A) is-on.ended (is-on.clauses 𝓤 H (𝓖 .A) (𝓜 .mem) (𝓡 .run))) 𝓜 𝓡 code.env #is-on is-on-def.routine code.calls-lines·chunks·is-on (is-on-thm.met 𝓤 H 𝓜 𝓖 𝓡),
-      cited 𝓤 H (contractOf 𝓤 H (𝓖 .A) history-at.ended (history-at.clauses 𝓤 H (𝓖 .A) (𝓜 .mem) (𝓡 .run))) 𝓜 𝓡 code.env #history-at history-at-def.routine code.calls-lines·chunks·history-at (history-at-thm.met 𝓤 H 𝓜 𝓖 𝓡),
-      cited 𝓤 H (contractOf 𝓤 H (𝓖 .A) serve-steps.ended (serve-steps.clauses 𝓤 H (𝓖 .A) (𝓜 .mem) (𝓡 .run))) 𝓜 𝓡 code.env #serve-steps serve-steps-def.routine code.calls-lines·chunks·serve-steps (serve-steps-thm.met 𝓤 H 𝓜 𝓖 𝓡),
-      cited 𝓤 H (contractOf 𝓤 H (𝓖 .A) place-after.ended (place-after.clauses 𝓤 H (𝓖 .A) (𝓜 .mem) (𝓡 .run))) 𝓜 𝓡 code.env #place-after place-after-def.routine code.calls-lines·chunks·place-after (place-after-thm.met 𝓤 H 𝓜 𝓖 𝓡),
-      cited 𝓤 H (contractOf 𝓤 H (𝓖 .A) next-line.ended (next-line.clauses 𝓤 H (𝓖 .A) (𝓜 .mem) (𝓡 .run))) 𝓜 𝓡 code.env #next-line next-line-def.routine code.calls-lines·chunks·next-line (next-line-thm.met 𝓤 H 𝓜 𝓖 𝓡),
+      cited 𝓤 H (contractOf 𝓤 H (𝓖 .A) first-place.ended (first-place.clauses 𝓤 H (𝓖 .A) (𝓜 .mem) (𝓡 .run))) 𝓜 𝓡 code.env #first-place first-place-def.routine code.calls-lines·places·first-place (first-place-thm.met 𝓤 H 𝓜 𝓖 𝓡),
+      cited 𝓤 H (contractOf 𝓤 H (𝓖 .A) is-ended.ended (is-ended.clauses 𝓤 H (𝓖 .A) (𝓜 .mem) (𝓡 .run))) 𝓜 𝓡 code.env #is-ended is-ended-def.routine code.calls-lines·places·is-ended (is-ended-thm.met 𝓤 H 𝓜 𝓖 𝓡),
+      cited 𝓤 H (contractOf 𝓤 H (𝓖 .A) first-run.ended (first-run.clauses 𝓤 H (𝓖 .A) (𝓜 .mem) (𝓡 .run))) 𝓜 𝓡 code.env #first-run first-run-def.routine code.calls-lines·runs·first-run (first-run-thm.met 𝓤 H 𝓜 𝓖 𝓡),
+      cited 𝓤 H (contractOf 𝓤 H (𝓖 .A) is-on.ended (is-on.clauses 𝓤 H (𝓖 .A) (𝓜 .mem) (𝓡 .run))) 𝓜 𝓡 code.env #is-on is-on-def.routine code.calls-lines·runs·is-on (is-on-thm.met 𝓤 H 𝓜 𝓖 𝓡),
+      cited 𝓤 H (contractOf 𝓤 H (𝓖 .A) history-at.ended (history-at.clauses 𝓤 H (𝓖 .A) (𝓜 .mem) (𝓡 .run))) 𝓜 𝓡 code.env #history-at history-at-def.routine code.calls-lines·places·history-at (history-at-thm.met 𝓤 H 𝓜 𝓖 𝓡),
+      cited 𝓤 H (contractOf 𝓤 H (𝓖 .A) serve-steps.ended (serve-steps.clauses 𝓤 H (𝓖 .A) (𝓜 .mem) (𝓡 .run))) 𝓜 𝓡 code.env #serve-steps serve-steps-def.routine code.calls-lines·runs·serve-steps (serve-steps-thm.met 𝓤 H 𝓜 𝓖 𝓡),
+      cited 𝓤 H (contractOf 𝓤 H (𝓖 .A) place-after.ended (place-after.clauses 𝓤 H (𝓖 .A) (𝓜 .mem) (𝓡 .run))) 𝓜 𝓡 code.env #place-after place-after-def.routine code.calls-lines·places·place-after (place-after-thm.met 𝓤 H 𝓜 𝓖 𝓡),
+      cited 𝓤 H (contractOf 𝓤 H (𝓖 .A) next-line.ended (next-line.clauses 𝓤 H (𝓖 .A) (𝓜 .mem) (𝓡 .run))) 𝓜 𝓡 code.env #next-line next-line-def.routine code.calls-lines·places·next-line (next-line-thm.met 𝓤 H 𝓜 𝓖 𝓡),
       cited 𝓤 H (contractOf 𝓤 H (𝓖 .A) take-turn.ended (take-turn.clauses 𝓤 H (𝓖 .A) (𝓜 .mem) (𝓡 .run))) 𝓜 𝓡 code.env #take-turn take-turn-def.routine code.calls-lines·turns·take-turn (take-turn-thm.met 𝓤 H 𝓜 𝓖 𝓡),
-      cited 𝓤 H (contractOf 𝓤 H (𝓖 .A) go-on.ended (go-on.clauses 𝓤 H (𝓖 .A) (𝓜 .mem) (𝓡 .run))) 𝓜 𝓡 code.env #go-on go-on-def.routine code.calls-lines·chunks·go-on (go-on-thm.met 𝓤 H 𝓜 𝓖 𝓡),
+      cited 𝓤 H (contractOf 𝓤 H (𝓖 .A) go-on.ended (go-on.clauses 𝓤 H (𝓖 .A) (𝓜 .mem) (𝓡 .run))) 𝓜 𝓡 code.env #go-on go-on-def.routine code.calls-lines·places·go-on (go-on-thm.met 𝓤 H 𝓜 𝓖 𝓡),
     ))

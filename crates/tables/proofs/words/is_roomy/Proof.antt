@@ -1,7 +1,7 @@
 -- `tables::words::is_roomy` meets its contract.
 -- Assumes nothing.
 use Rattle.trie.specs.Tables.{roomy}
-use Rattle.tables.proofs.Leaves.{doubled, doubled-less}
+use Rattle.tables.proofs.Halves.{doubled, doubled-less}
 use native.Mathlib.Omega.{arith}
 use Rattle.trie.specs.TableLaws.{room-most}
 use borrow.Author.Needs.{needs}

@@ -5,7 +5,7 @@ use native.Mathlib.Omega.{arith}
 use borrow.Author.Tests.{le-leb, lt-leb}
 use lib.ListN.{length-set}
 use Rattle.trie.specs.Tables.{versionPut}
-use Rattle.tables.proofs.Leaves.{in-version}
+use Rattle.tables.proofs.Halves.{in-version}
 use Prim.Native.Nat.{_+_, _*_, _-_}
 use lib.ListN.{set}
 use borrow.Author.Needs.{needs}

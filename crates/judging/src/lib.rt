@@ -1,0 +1,64 @@
+// The refusals of a call before anything is planned: 1, 2, 3 and 4 from N, W, the worker's number and the lengths of what is lent;
+// and those of a step that its record decides with N and the tables. Where there is none the answer is 0.
+ghost use mathlib.Core.Path.{_≡_};
+ghost use Prim.Native.Nat.{_≤_};
+ghost use Rattle.trie.specs.Size.{mostCells};
+ghost use Rattle.judging.specs.Judging.{mannedBy, roomBy, roomyBy, absentOf, judgeOf, judgeRecordOf};
+use trie::Worker;
+
+pub fn is_manned(w: u64, seats: usize) -> bool
+    ensures { λ r. ⌜ r ≡ mannedBy w seats ⌝ }
+{
+    ((1 <= w) & (w <= 16)) & (w <= seats as u64)
+}
+
+fn room(versions: usize) -> u64
+    ensures { λ r. ⌜ r ≡ roomBy versions ⌝ }
+{
+    let whole = versions as u64 / 5;
+    if whole <= 1000000 { whole } else { 1000000 }
+}
+
+fn is_roomy(n: u64, nodes: usize, versions: usize) -> bool
+    requires { ⌜ (2 ≤ n) × (n ≤ mostCells) ⌝ }
+    ensures { λ r. ⌜ r ≡ roomyBy n nodes versions ⌝ }
+{
+    let most = room(versions);
+    (2 * n <= nodes as u64) & (2 * n - 1 <= most)
+}
+
+// The first refusal where the board has no such worker.
+fn judge_absent(n: u64, manned: bool, nodes: usize, versions: usize) -> u64
+    ensures { λ r. ⌜ r ≡ absentOf n manned nodes versions ⌝ }
+{
+    if !tables::is_allowed(n) {
+        return 1;
+    }
+    if !manned {
+        return 2;
+    }
+    if is_roomy(n, nodes, versions) { 4 } else { 3 }
+}
+
+pub fn judge(n: u64, w: u64, i: u64, nodes: usize, versions: usize, seats: usize) -> u64
+    ensures { λ r. ⌜ r ≡ judgeOf n w i nodes versions seats ⌝ }
+{
+    let manned = is_manned(w, seats);
+    if manned & (i < w) {
+        return 0;
+    }
+    judge_absent(n, manned, nodes, versions)
+}
+
+// The refusals of a step that its record, N and the tables' lengths decide: 1, 3 and 6, or 0 for none.
+pub fn judge_record(n: u64, w: Worker, nodes: &[u64], versions: &[u64]) -> u64
+    ensures { λ r. ⌜ r ≡ judgeRecordOf n w (now (nodes .entry)) (now (versions .entry)) ⌝ }
+{
+    if !tables::is_allowed(n) {
+        return 1;
+    }
+    if !tables::is_roomy(n, nodes, versions) {
+        return 3;
+    }
+    if records::is_busy(w) { 0 } else { 6 }
+}

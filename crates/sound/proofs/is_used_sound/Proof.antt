@@ -1,0 +1,18 @@
+-- `sound::is_used_sound` meets its contract.
+-- Assumes nothing.
+use mathlib.Core.Path.{refl}
+use Rattle.trie.specs.Sound.{usedSound}
+use Rattle.tables.proofs.Halves.{doubled-odd}
+use borrow.Author.Needs.{needs}
+use Rattle.sound.proofs.is_used_sound.Statement.{statement}
+use Rattle.sound.proofs.is_used_sound.Tie as tie
+
+add-result : tie.Need-add-result
+add-result c = search needs
+
+returns : tie.Need-returns
+unfolding usedSound
+returns c = rw (doubled-odd (c .before .before .before .before .args .b .cells) (c .before .before .before .before .args .b .used)) refl
+
+pub is-used-sound-spec : {M : Type 1} → statement M
+is-used-sound-spec = tie.close (tie.spec add-result returns)
