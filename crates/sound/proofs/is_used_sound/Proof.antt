@@ -1,6 +1,8 @@
 -- `sound::is_used_sound` meets its contract.
 -- Assumes nothing.
-use mathlib.Core.Path.{refl}
+use mathlib.Core.Path.{ap}
+use mathlib.Core.Bool.{Bool, _&&_}
+use lib.Dec.{leb}
 use Rattle.trie.specs.Sound.{usedSound}
 use Rattle.tables.proofs.Halves.{doubled-odd}
 use borrow.Author.Needs.{needs}
@@ -12,7 +14,7 @@ add-result c = search needs
 
 returns : tie.Need-returns
 unfolding usedSound
-returns c = rw (doubled-odd (c .before .before .before .before .args .b .cells) (c .before .before .before .before .args .b .used)) refl
+returns c = ap (λ (t : Bool). t && leb (c .before .before .before .before .args .b .used) (c .before .before .before .before .args .b .room)) (doubled-odd (c .before .before .before .before .args .b .cells) (c .before .before .before .before .args .b .used))
 
 pub is-used-sound-spec : {M : Type 1} → statement M
 is-used-sound-spec = tie.close (tie.spec add-result returns)
