@@ -1,4 +1,4 @@
--- The parts of a body that a walk is cut at: the rest of a sequence, the arms of a branch or of a match, and the types of its locals. It says nothing of the crate, and can be copied as it stands.
+-- The parts of a body that a walk is cut at: the rest of a sequence, the arms of a branch or of a match, and the types of its locals. It says nothing of the crate, and other crates cite it here.
 -- Assumes nothing.
 use mathlib.Core.List.{List, [], _∷_}
 use Prim.Native.Nat.{ℕ, zero, suc}

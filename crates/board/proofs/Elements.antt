@@ -1,4 +1,4 @@
--- An element of a `&mut [T]` that is taken out to be read, and put back as it was. It says nothing of the crate, and can be copied as it stands.
+-- An element of a `&mut [T]` that is taken out to be read, and put back as it was. It says nothing of the crate.
 --     takes-out        the slice and its token stand at the head of the context, and then the element's cell and what is kept meanwhile
 --     puts-in          those stand there, and then the slice and its token
 -- The steps stand before any goal that takes an update (`Soaks`). Assumes `Given`.

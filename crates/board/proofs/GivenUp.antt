@@ -1,4 +1,4 @@
--- A `&mut [T]` that is given up for good: what says its last list is left. It says nothing of the crate, and can be copied as it stands.
+-- A `&mut [T]` that is given up for good: what says its last list is left. It says nothing of the crate, and other crates cite it here.
 --     gives-up         own (the `&κ mut [T]` x)  ⊢  that x's list is the last one under x's name
 -- Assumes `Given`.
 use mathlib.Core.List.{List, [], _∷_}

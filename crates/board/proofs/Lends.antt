@@ -1,4 +1,4 @@
--- A `&mut [T]` that the holder still needs, lent on for a lifetime made for a call, and taken back. It says nothing of the crate, and can be copied as it stands.
+-- A `&mut [T]` that the holder still needs, lent on for a lifetime made for a call, and taken back. It says nothing of the crate, and other crates cite it here.
 --     lends-on, takes-on         lent whole; it comes back at the callee's last list
 --     lends-first, takes-first   its first k elements are lent; they come back at the callee's last list, before the others
 --     shares-on, ceases-on       lent whole as a `&[T]`; it comes back as it was

@@ -1,5 +1,5 @@
 -- What the walks of several functions use, and the laws by which they end.
--- The first eight say nothing of this crate, and can be copied as they stand.
+-- The first eight say nothing of this crate, and most of them are cited by others.
 pub mod Callee
 pub mod Arms
 pub mod Bodies

@@ -1,4 +1,4 @@
--- A call whose first parameter is a `&[T]`, made of a `&mut [T]` that the caller still needs: the slice is lent as `&` for a lifetime made for the call, and comes back as it was, in one step. It says nothing of the crate, and can be copied as it stands.
+-- A call whose first parameter is a `&[T]`, made of a `&mut [T]` that the caller still needs: the slice is lent as `&` for a lifetime made for the call, and comes back as it was, in one step. It says nothing of the crate, and other crates cite it here.
 --     calls-shared     the slice and its token stand at the head of the context before and after
 --         goes         the token of ν and the `&ν [T]`, under δ, are what the callee asks
 --         gives        what the callee leaves: some result r, with a fact of it, and the token

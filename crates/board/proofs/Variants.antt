@@ -1,4 +1,4 @@
--- The tag and the fields of an enum that lies in a local, as operands. That its type has them is computed and not written out, so that a large type costs nothing. It says nothing of the crate, and can be copied as it stands.
+-- The tag and the fields of an enum that lies in a local, as operands. That its type has them is computed and not written out, so that a large type costs nothing. It says nothing of the crate.
 --     tag-of       the tag of local i, which stands at n in the context and holds the variant k
 --     field-of     field j of that variant
 -- Assumes `Given`.

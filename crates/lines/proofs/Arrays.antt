@@ -1,4 +1,4 @@
--- A local array that is lent as a `&mut [T]` for a lifetime made for a call, and taken back. It says nothing of the crate, and can be copied as it stands.
+-- A local array that is lent as a `&mut [T]` for a lifetime made for a call, and taken back. It says nothing of the crate.
 --     lends-array      the local, which holds the array xs whole, stands at the head of the context; it gives the slice, the token of its lifetime, and what is kept meanwhile
 --     takes-array      the token, what is kept, and what says the last list zs give the local back, which holds zs whole
 -- Assumes `Given`.

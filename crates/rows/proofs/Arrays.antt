@@ -1,4 +1,4 @@
--- The first elements of a local array that are lent as a `&mut [T]` for a lifetime made for a call, and taken back. It says nothing of the crate, and can be copied as it stands.
+-- The first elements of a local array that are lent as a `&mut [T]` for a lifetime made for a call, and taken back. It says nothing of the crate.
 --     Kept             what is kept meanwhile: the way back, and the elements that are not lent
 --     lends-part       the local, which holds the array xs whole, stands at the head of the context; it gives the slice of its first k elements, the token of its lifetime, and what is kept
 --     takes-part       the token, what says the last list zs of the slice, and what is kept give the local back, which holds zs and the elements that were not lent
