@@ -23,7 +23,7 @@ use Rattle.trie.specs.Leaf.{sure}
 use Rattle.trie.specs.Values.{Course, progressOf}
 use Rattle.trie.specs.Stepping.{refuses, planPhase, planOf, afterNext, movedTo, progressBy, workerBy, carryOf}
 use Rattle.trie.specs.Calls.{State, state, After, after, stepAt}
-use Rattle.board.specs.Planning.{goesOn}
+use Rattle.board.specs.Carrying.{goesOn}
 
 -- the record goes on
 pub goes-on : (next : Next) (t : Bool) → t ≡ goesOn next → T t → Progress.On ≡ progressBy (movedTo next)

@@ -1,4 +1,4 @@
-pub mod Planning
+pub mod Carrying
 pub mod Promising
 pub mod Opening
 pub mod PromisingLaws

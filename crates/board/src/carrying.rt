@@ -8,7 +8,7 @@ ghost use Rattle.trie.specs.Record.{idle};
 ghost use Rattle.trie.specs.Values.{Course, progressOf};
 ghost use Rattle.trie.specs.Stepping.{movedTo, progressBy, workerBy, carryOf};
 ghost use Rattle.trie.specs.Calls.{After, after, state, stepAt};
-ghost use Rattle.board.specs.Planning.{goesOn};
+ghost use Rattle.board.specs.Carrying.{goesOn};
 use trie::Next;
 use trie::NodeNumber;
 use trie::Plan;

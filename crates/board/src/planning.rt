@@ -5,7 +5,7 @@ ghost use mathlib.Core.Bool.{true, false};
 ghost use Prim.Native.Nat.{_≤_};
 ghost use Rattle.trie.specs.Size.{mostCells, tallest};
 ghost use Rattle.trie.specs.Stepping.{planPhase};
-ghost use Rattle.board.specs.Planning.{refreshing, atLeaf};
+ghost use Rattle.records.specs.Phases.{refreshing, atLeaf};
 use trie::Bounds;
 use trie::Phase;
 use trie::Plan;

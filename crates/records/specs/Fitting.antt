@@ -1,6 +1,5 @@
--- An update and a record as plain numbers: the level that it brings, whether it is an update, and what it has made.
+-- An update as plain numbers: the level that it brings, and how many versions it has made.
 -- Assumes nothing.
-use mathlib.Core.Bool.{Bool, true, false}
 use Prim.Native.Nat.{ℕ}
 use Rattle.trie.specs.declared.Phase.{Phase}
 use Rattle.trie.specs.declared.Update.{Update}
@@ -9,17 +8,6 @@ use Rattle.trie.specs.declared.Update.{Update}
 abbrev pub loudnessOf : Update → ℕ
 loudnessOf (Update.Insert k l) = l .0
 loudnessOf (Update.Delete k) = 0
-
--- an update is under way
-abbrev pub updating : Phase → Bool
-updating Phase.Idle = false
-updating (Phase.Read u) = true
-updating (Phase.Swap u v) = true
-updating (Phase.Refresh c held) = true
-updating (Phase.Ask q) = false
-updating (Phase.Find k s) = false
-updating (Phase.Rank k s count energy) = false
-updating (Phase.Select j s x passed) = false
 
 -- the versions that the update has made; one before its climb has made none
 abbrev pub madeOf : Phase → ℕ

@@ -45,7 +45,7 @@ use Rattle.trie.specs.Stepping.{movedTo, progressBy, workerBy}
 use Rattle.trie.proofs.Next as Ne
 use Rattle.trie.proofs.Next.Laws as Ne′
 use Rattle.trie.proofs.Progress as Pr
-use Rattle.board.specs.Planning.{goesOn}
+use Rattle.board.specs.Carrying.{goesOn}
 use Rattle.board.proofs.Callee.{contractOf, calls-plain}
 use Rattle.board.proofs.Arms.{branches-on}
 use Rattle.board.proofs.Shared.{at-list}

@@ -1,7 +1,9 @@
 -- `board::planning::plan_leaf` meets its contract.
 -- Assumes nothing.
 use mathlib.Core.Path.{refl}
-use Rattle.board.proofs.Plans.{not-at-leaf, plan-within}
+use mathlib.Core.Bool.{true}
+use Rattle.records.specs.Phases.{atLeaf}
+use Rattle.board.proofs.Plans.{left-out, plan-within}
 use borrow.Author.Needs.{needs}
 use Rattle.board.proofs.planning.plan_leaf.Statement.{statement}
 use Rattle.board.proofs.planning.plan_leaf.Tie as tie
@@ -46,19 +48,19 @@ returns-3 : tie.Need-returns-3
 returns-3 c = plan-within (c .before .before .before .before .before .before .args .b) (c .before .before .before .before .before .before .args .w .phase) (c .before .before .before .before .before .before .args .nodes .now) (c .before .before .before .before .before .before .args .versions .now) _ (c .before .before .phase2 .given .1) _ (c .before .before .before .before .before .before .pre .0) (c .swap .ensures)
 
 returns-4 : tie.Need-returns-4
-returns-4 c = not-at-leaf (c .before .before .before .before .args .b) (c .before .before .before .before .args .w .phase) (c .before .before .before .before .args .nodes .now) (c .before .before .before .before .args .versions .now) _ (c .enum-told2 .given .1) (c .before .before .before .before .pre .1) refl
+returns-4 c = left-out (c .before .before .before .before .args .b) (c .before .before .before .before .args .w .phase) (c .before .before .before .before .args .nodes .now) (c .before .before .before .before .args .versions .now) _ (c .enum-told2 .given .1) atLeaf true (c .before .before .before .before .pre .1) refl
 
 returns-5 : tie.Need-returns-5
-returns-5 c = not-at-leaf (c .before .before .before .before .args .b) (c .before .before .before .before .args .w .phase) (c .before .before .before .before .args .nodes .now) (c .before .before .before .before .args .versions .now) _ (c .enum-told3 .given .1) (c .before .before .before .before .pre .1) refl
+returns-5 c = left-out (c .before .before .before .before .args .b) (c .before .before .before .before .args .w .phase) (c .before .before .before .before .args .nodes .now) (c .before .before .before .before .args .versions .now) _ (c .enum-told3 .given .1) atLeaf true (c .before .before .before .before .pre .1) refl
 
 returns-6 : tie.Need-returns-6
-returns-6 c = not-at-leaf (c .before .before .before .before .args .b) (c .before .before .before .before .args .w .phase) (c .before .before .before .before .args .nodes .now) (c .before .before .before .before .args .versions .now) _ (c .enum-told4 .given .1) (c .before .before .before .before .pre .1) refl
+returns-6 c = left-out (c .before .before .before .before .args .b) (c .before .before .before .before .args .w .phase) (c .before .before .before .before .args .nodes .now) (c .before .before .before .before .args .versions .now) _ (c .enum-told4 .given .1) atLeaf true (c .before .before .before .before .pre .1) refl
 
 returns-7 : tie.Need-returns-7
-returns-7 c = not-at-leaf (c .before .before .before .before .args .b) (c .before .before .before .before .args .w .phase) (c .before .before .before .before .args .nodes .now) (c .before .before .before .before .args .versions .now) _ (c .enum-told5 .given .1) (c .before .before .before .before .pre .1) refl
+returns-7 c = left-out (c .before .before .before .before .args .b) (c .before .before .before .before .args .w .phase) (c .before .before .before .before .args .nodes .now) (c .before .before .before .before .args .versions .now) _ (c .enum-told5 .given .1) atLeaf true (c .before .before .before .before .pre .1) refl
 
 returns-8 : tie.Need-returns-8
-returns-8 c = not-at-leaf (c .before .before .before .before .args .b) (c .before .before .before .before .args .w .phase) (c .before .before .before .before .args .nodes .now) (c .before .before .before .before .args .versions .now) _ (c .enum-told6 .given .1) (c .before .before .before .before .pre .1) refl
+returns-8 c = left-out (c .before .before .before .before .args .b) (c .before .before .before .before .args .w .phase) (c .before .before .before .before .args .nodes .now) (c .before .before .before .before .args .versions .now) _ (c .enum-told6 .given .1) atLeaf true (c .before .before .before .before .pre .1) refl
 
 pub plan-leaf-spec : {M : Type 1} → statement M
 plan-leaf-spec =

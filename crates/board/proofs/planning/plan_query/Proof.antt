@@ -1,7 +1,9 @@
 -- `board::planning::plan_query` meets its contract.
 -- Assumes nothing.
 use mathlib.Core.Path.{refl}
-use Rattle.board.proofs.Plans.{refreshed-not, at-leaf-not, plan-by, plan-below}
+use mathlib.Core.Bool.{false}
+use Rattle.records.specs.Phases.{atLeaf, refreshing}
+use Rattle.board.proofs.Plans.{left-out, plan-by, plan-below}
 use borrow.Author.Needs.{needs}
 use Rattle.board.proofs.planning.plan_query.Statement.{statement}
 use Rattle.board.proofs.planning.plan_query.Tie as tie
@@ -46,13 +48,13 @@ returns : tie.Need-returns
 returns c = search needs
 
 returns-2 : tie.Need-returns-2
-returns-2 c = at-leaf-not (c .before .before .before .before .args .b) (c .before .before .before .before .args .w .phase) (c .before .before .before .before .args .nodes .now) (c .before .before .before .before .args .versions .now) _ (c .enum-told2 .given .1) (c .before .before .before .before .pre .2) refl
+returns-2 c = left-out (c .before .before .before .before .args .b) (c .before .before .before .before .args .w .phase) (c .before .before .before .before .args .nodes .now) (c .before .before .before .before .args .versions .now) _ (c .enum-told2 .given .1) atLeaf false (c .before .before .before .before .pre .2) refl
 
 returns-3 : tie.Need-returns-3
-returns-3 c = at-leaf-not (c .before .before .before .before .args .b) (c .before .before .before .before .args .w .phase) (c .before .before .before .before .args .nodes .now) (c .before .before .before .before .args .versions .now) _ (c .enum-told3 .given .1) (c .before .before .before .before .pre .2) refl
+returns-3 c = left-out (c .before .before .before .before .args .b) (c .before .before .before .before .args .w .phase) (c .before .before .before .before .args .nodes .now) (c .before .before .before .before .args .versions .now) _ (c .enum-told3 .given .1) atLeaf false (c .before .before .before .before .pre .2) refl
 
 returns-4 : tie.Need-returns-4
-returns-4 c = refreshed-not (c .before .before .before .before .args .b) (c .before .before .before .before .args .w .phase) (c .before .before .before .before .args .nodes .now) (c .before .before .before .before .args .versions .now) _ (c .enum-told4 .given .1) (c .before .before .before .before .pre .1) refl
+returns-4 c = left-out (c .before .before .before .before .args .b) (c .before .before .before .before .args .w .phase) (c .before .before .before .before .args .nodes .now) (c .before .before .before .before .args .versions .now) _ (c .enum-told4 .given .1) refreshing false (c .before .before .before .before .pre .1) refl
 
 returns-5 : tie.Need-returns-5
 returns-5 c = plan-by (c .before .before .before .before .before .before .args .b) (c .before .before .before .before .before .before .args .w .phase) (c .before .before .before .before .before .before .args .nodes .now) (c .before .before .before .before .before .before .args .versions .now) _ (c .before .before .phase .given .1) _ (c .ask .ensures)

@@ -52,7 +52,7 @@ use Rattle.trie.proofs.Bounds as Bo
 use Rattle.trie.proofs.Bounds.Laws as Bo′
 use Rattle.trie.proofs.Plan as Pl
 use Rattle.trie.proofs.Progress as Pr
-use Rattle.board.specs.Planning.{refreshing, atLeaf}
+use Rattle.records.specs.Phases.{refreshing, atLeaf}
 use Rattle.board.proofs.Callee.{contractOf, asks, calls-told, calls-plain}
 use Rattle.board.proofs.Bodies.{then-of, ty-at}
 use Rattle.board.proofs.GivenUp.{gives-up}
