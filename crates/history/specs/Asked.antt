@@ -21,7 +21,8 @@ use Rattle.trie.specs.Sound.{boundsOf}
 use Rattle.trie.specs.Record.{worker, idle, busyPhase, queryFits}
 use Rattle.trie.specs.Values.{Value, on, done}
 use Rattle.trie.specs.Stepping.{Stepped, refuses, planOf, carryOf, stepRecordOf}
-use Rattle.history.specs.Base.{Node, prefix-refl}
+use Rattle.history.specs.ListLaws.{prefix-refl}
+use Rattle.history.specs.Nodes.{Node}
 use Rattle.history.specs.Book.{Book, answer}
 use Rattle.history.specs.Machine.{Shared, at}
 use Rattle.history.specs.Replay.{view}

@@ -14,7 +14,9 @@ use lib.ListN.{length}
 use Rattle.trie.specs.SizeLaws.{and-first}
 use Rattle.trie.specs.declared.Update.{Update}
 use Rattle.trie.specs.Record.{cellOf, updateFits}
-use Rattle.history.specs.Base.{Side, lo, hi, Node, Node-discrete, Below, below-length, below-self, below-same, _∈_, prefix-refl, prefix-append, prefix-trans, All, all-nil, all-cons, all-map, all-append, all-at, all-zip}
+use Rattle.history.specs.Lists.{_∈_, All, all-nil, all-cons}
+use Rattle.history.specs.ListLaws.{prefix-refl, prefix-append, prefix-trans, all-map, all-append, all-at, all-zip}
+use Rattle.history.specs.Nodes.{Side, lo, hi, Node, Node-discrete, Below, below-length, below-self, below-same}
 use Rattle.history.specs.Numbers.{place, length-leaf, place-leaf}
 use Rattle.history.specs.Book.{fits, want, mark}
 use Rattle.history.specs.Arrivals.{Op, Entry, entry, refused, others, swapBrings}

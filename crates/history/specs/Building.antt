@@ -10,7 +10,9 @@ use native.Mathlib.Decide.{ℕ-discrete}
 use native.Mathlib.Omega.{arith}
 use lib.ListN.{length}
 use Rattle.trie.specs.declared.Version.{Version}
-use Rattle.history.specs.Base.{Side, Node, Node-discrete, Below, _∈_, Prefix, prefix-refl, prefix-append, all-nil, all-append}
+use Rattle.history.specs.Lists.{_∈_, Prefix, all-nil}
+use Rattle.history.specs.ListLaws.{prefix-refl, prefix-append, all-append}
+use Rattle.history.specs.Nodes.{Side, Node, Node-discrete, Below}
 use Rattle.history.specs.Arrivals.{Op, Entry, entry}
 use Rattle.history.specs.Put.{put}
 use Rattle.history.specs.PutLaws.{put-all, put-other}

@@ -10,7 +10,8 @@ use native.Mathlib.Decide.{ℕ-discrete}
 use native.Mathlib.Omega.{arith}
 use Rattle.trie.specs.declared.Query.{Query}
 use Rattle.trie.specs.declared.Operation.{Operation}
-use Rattle.history.specs.Base.{_∈_, All, all-head, all-tail, all-map, all-append, all-at}
+use Rattle.history.specs.Lists.{_∈_, All}
+use Rattle.history.specs.ListLaws.{all-head, all-tail, all-map, all-append, all-at}
 use Rattle.history.specs.Arrivals.{Op, Entry}
 use Rattle.history.specs.Put.{put}
 use Rattle.history.specs.PutLaws.{put-all, put-other}

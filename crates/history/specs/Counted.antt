@@ -9,7 +9,7 @@ use native.Mathlib.Decide.{ℕ-discrete}
 use native.Mathlib.Omega.{arith}
 use lib.ListN.{length}
 use Rattle.trie.specs.Record.{cellOf}
-use Rattle.history.specs.Base.{Node}
+use Rattle.history.specs.Nodes.{Node}
 use Rattle.history.specs.Numbers.{length-leaf}
 use Rattle.history.specs.Book.{fits, mark}
 use Rattle.history.specs.Arrivals.{Op, Entry}

@@ -7,7 +7,7 @@ use Prim.Native.Nat.{ℕ, zero, suc, _+_, _≤_, _<_}
 use native.Mathlib.Omega.{arith}
 use lib.ListN.{length}
 use Rattle.trie.specs.declared.Version.{Version}
-use Rattle.history.specs.Base.{Side, lo, hi, Node, down, length-down, Below, below-self, below-up, below-down}
+use Rattle.history.specs.Nodes.{Side, lo, hi, Node, down, length-down, Below, below-self, below-up, below-down}
 use Rattle.history.specs.Numbers.{place}
 use Rattle.history.specs.Book.{Book, ones, weights, mark}
 use Rattle.history.specs.Arrivals.{Entry}

@@ -15,7 +15,8 @@ use Rattle.trie.specs.declared.Update.{Update}
 use Rattle.trie.specs.declared.Version.{Version}
 use Rattle.trie.specs.SizeLaws.{and-second}
 use Rattle.trie.specs.Record.{updateFits}
-use Rattle.history.specs.Base.{Side, lo, hi, Node, All, all-nil, all-cons}
+use Rattle.history.specs.Lists.{All, all-nil, all-cons}
+use Rattle.history.specs.Nodes.{Side, lo, hi, Node}
 use Rattle.history.specs.Numbers.{place}
 use Rattle.history.specs.Book.{after, mark}
 use Rattle.history.specs.Arrivals.{Entry}

@@ -17,7 +17,7 @@ use Rattle.trie.specs.Tables.{currentOf, versionAt}
 use Rattle.trie.specs.Record.{cellOf}
 use Rattle.trie.specs.Leaf.{asWanted}
 use Rattle.trie.specs.Calls.{State}
-use Rattle.history.specs.Base.{lo, hi, Node, Node-discrete, below-length}
+use Rattle.history.specs.Nodes.{lo, hi, Node, Node-discrete, below-length}
 use Rattle.history.specs.Numbers.{number, number-pos, number-inj, number-leaf, length-leaf}
 use Rattle.history.specs.Book.{fits, mark}
 use Rattle.history.specs.Arrivals.{Op, Entry, entry, swapBrings, refreshBrings}

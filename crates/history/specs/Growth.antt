@@ -10,7 +10,9 @@ use native.Mathlib.Omega.{arith}
 use lib.ListN.{length}
 use Rattle.trie.specs.declared.Version.{Version}
 use Rattle.trie.specs.Record.{cellOf}
-use Rattle.history.specs.Base.{Side, lo, hi, Node, Below, below-length, _∈_, Prefix, prefix-trans, mem-prefix, all-map}
+use Rattle.history.specs.Lists.{_∈_, Prefix}
+use Rattle.history.specs.ListLaws.{prefix-trans, mem-prefix, all-map}
+use Rattle.history.specs.Nodes.{Side, lo, hi, Node, Below, below-length}
 use Rattle.history.specs.Numbers.{length-leaf}
 use Rattle.history.specs.Book.{fits, mark}
 use Rattle.history.specs.Arrivals.{Op, Entry, entry}

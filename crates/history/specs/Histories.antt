@@ -1,5 +1,6 @@
 -- A history: one accepted open, then any list of start and step calls, with any numbers; a refused call is no part of it.
 -- Document 01, the end of "Reaching the root". Assumes nothing.
+use mathlib.Core.Path.{_≡_}
 use mathlib.Core.List.{List, [], _∷_}
 use Prim.Native.Nat.{ℕ}
 use lib.ListN.{getD}
@@ -46,11 +47,12 @@ after n w (c ∷ calls) t = after n w calls (called n w c t)
 abbrev pub history : ℕ → ℕ → State → List Call → Moment
 history n w s calls = after n w calls (record { state = openOf n w s .state; memory = nothingYet })
 
--- the number of a refusal; 0 where there is none
-abbrev pub numberOf : {A : Type 0} → Told A → ℕ
-numberOf (refused number) = number
-numberOf (gives a) = 0
+-- a call that is refused with this number
+abbrev pub Refuses : ℕ → ℕ → Call → State → ℕ → Type 0
+Refuses n w (start i o) s number = startOf n w i o s .told ≡ refused number
+Refuses n w (step i) s number = stepOf n w i s .told ≡ refused number
 
-abbrev pub refusal : ℕ → ℕ → Call → State → ℕ
-refusal n w (start i o) s = numberOf (startOf n w i o s .told)
-refusal n w (step i) s = numberOf (stepOf n w i s .told)
+-- a step that is accepted, and what it tells
+pub record Accepts (n w i : ℕ) (s : State) : Type 0 where
+  pub course : Course
+  pub is : stepOf n w i s .told ≡ gives course

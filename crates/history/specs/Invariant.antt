@@ -9,7 +9,8 @@ use Prim.Native.Nat.{ℕ, zero, suc, _+_, _^_, _≤_, _<_}
 use lib.ListN.{length}
 use Rattle.trie.specs.declared.Version.{Version}
 use Rattle.trie.specs.Record.{updateFits}
-use Rattle.history.specs.Base.{Side, lo, hi, Node, down, Below, _∈_, Prefix, All}
+use Rattle.history.specs.Lists.{_∈_, Prefix, All}
+use Rattle.history.specs.Nodes.{Side, lo, hi, Node, down, Below}
 use Rattle.history.specs.Numbers.{place}
 use Rattle.history.specs.Book.{Book, fits, ones, weights, mark}
 use Rattle.history.specs.Arrivals.{Op, Entry, entry}

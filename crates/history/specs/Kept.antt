@@ -14,7 +14,9 @@ use lib.Pow.{pow-mono, pow-pos}
 use Rattle.trie.specs.declared.Version.{Version}
 use Rattle.trie.specs.Record.{updateFits}
 use Rattle.trie.specs.Tables.{version}
-use Rattle.history.specs.Base.{Side, lo, hi, Node, down, length-down, Prefix, prefix-refl, all-nil, all-map}
+use Rattle.history.specs.Lists.{Prefix, all-nil}
+use Rattle.history.specs.ListLaws.{prefix-refl, all-map}
+use Rattle.history.specs.Nodes.{Side, lo, hi, Node, down, length-down}
 use Rattle.history.specs.Numbers.{number, number-pos, number-range}
 use Rattle.history.specs.Book.{fits, ones, weights, mark}
 use Rattle.history.specs.Arrivals.{Op}

@@ -1,4 +1,5 @@
 -- the statement
+pub mod Lists
 pub mod Book
 pub mod Arrivals
 pub mod Put
@@ -8,7 +9,8 @@ pub mod Theorem
 -- that it says what the page says
 pub mod PageWords
 -- the machine, and the facts that every step keeps
-pub mod Base
+pub mod ListLaws
+pub mod Nodes
 pub mod PutLaws
 pub mod Numbers
 pub mod Machine
@@ -50,8 +52,9 @@ pub mod UpdateSteps
 pub mod QuerySteps
 pub mod StepCalls
 pub mod StartCalls
-pub mod Proof
 pub mod OrderGrows
+pub mod OwnSteps
+pub mod Proof
 -- that it is not empty
 pub mod Soundings
 pub mod Starred

@@ -11,7 +11,7 @@ use Rattle.trie.specs.Record.{cellOf}
 use Rattle.trie.specs.Refreshing.{sumOf}
 use Rattle.trie.specs.Tables.{version}
 use Rattle.history.specs.Put.{choose, put}
-use Rattle.history.specs.Base.{Side, lo, hi, Node, Node-discrete}
+use Rattle.history.specs.Nodes.{Side, lo, hi, Node, Node-discrete}
 use Rattle.history.specs.Numbers.{leaf, number}
 use Rattle.history.specs.Book.{fits, want, mark}
 use Rattle.history.specs.Arrivals.{Op, Entry, entry, swapBrings, refreshBrings}

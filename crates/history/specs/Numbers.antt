@@ -9,7 +9,7 @@ use native.Mathlib.Omega.{arith}
 use borrow.Author.Tests.{eqb-true, eqb-false}
 use lib.Dec.{eqb}
 use lib.ListN.{length}
-use Rattle.history.specs.Base.{Side, lo, hi, Node}
+use Rattle.history.specs.Nodes.{Side, lo, hi, Node}
 
 abbrev pub bit : Side → ℕ
 bit lo = 0

@@ -6,7 +6,9 @@ use mathlib.Core.Option.{none}
 use Prim.Native.Nat.{ℕ, _+_}
 use lib.ListN.{length}
 use Rattle.trie.specs.Record.{cellOf}
-use Rattle.history.specs.Base.{Side, Node, down, Below, _∈_, Prefix, mem-prefix, All, all-map, all-head, all-at}
+use Rattle.history.specs.Lists.{_∈_, Prefix, All}
+use Rattle.history.specs.ListLaws.{mem-prefix, all-map, all-head, all-at}
+use Rattle.history.specs.Nodes.{Side, Node, down, Below}
 use Rattle.history.specs.Numbers.{place, length-leaf, place-leaf}
 use Rattle.history.specs.Arrivals.{Entry}
 use Rattle.history.specs.Machine.{Shared, at, cell}

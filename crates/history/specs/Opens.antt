@@ -18,7 +18,7 @@ use Rattle.trie.specs.Tables.{version, versionAt, roomy}
 use Rattle.trie.specs.TableLaws.{roomy-nodes, roomy-versions, room-length}
 use Rattle.trie.specs.Opening.{openNodes, openVersions}
 use Rattle.trie.specs.OpenLaws.{open-used, open-current, firstVersion, open-version}
-use Rattle.history.specs.Base.{Side, lo, hi, Node}
+use Rattle.history.specs.Nodes.{Side, lo, hi, Node}
 use Rattle.history.specs.Numbers.{number, number-pos, number-range}
 use Rattle.history.specs.Put.{choose}
 use Rattle.history.specs.Machine.{child, initial}

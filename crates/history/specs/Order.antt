@@ -77,6 +77,19 @@ abbrev pub places : ℕ → List Entry → List Placed
 places moment [] = []
 places moment (e ∷ s) = placed (e .op .id) (Operation.Update (e .op .update)) moment ∷ places moment s
 
+-- the updates in a part of the order, and those of a list of arrivals
+abbrev pub ifUpdate : Operation → ℕ → List Op → List Op
+ifUpdate (Operation.Update u) id s = record { id = id; update = u } ∷ s
+ifUpdate (Operation.Query q) id s = s
+
+abbrev pub updates : List Placed → List Op
+updates [] = []
+updates (p ∷ s) = ifUpdate (p .operation) (p .id) (updates s)
+
+abbrev pub ops : List Entry → List Op
+ops [] = []
+ops (e ∷ s) = e .op ∷ ops s
+
 abbrev pub arrive : ℕ → List Entry → Memory → Memory
 arrive x who m =
     memory (m .moment) (m .starts) (m .lives) (m .tasks) (m .waiting) (put ℕ-discrete (m .reached) x (m .reached x ++ who))

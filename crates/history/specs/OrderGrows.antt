@@ -14,7 +14,8 @@ use Rattle.trie.specs.Record.{cellOf}
 use Rattle.trie.specs.Leaf.{asWanted}
 use Rattle.trie.specs.Values.{Ok, Course}
 use Rattle.trie.specs.Calls.{State, startOf, stepOf}
-use Rattle.history.specs.Base.{Prefix, prefix-refl, prefix-append, prefix-trans}
+use Rattle.history.specs.Lists.{Prefix}
+use Rattle.history.specs.ListLaws.{prefix-refl, prefix-append, prefix-trans}
 use Rattle.history.specs.Arrivals.{Op}
 use Rattle.history.specs.Order.{Placed, Task, Memory, succeeds, readsLeaf, swapsLeaf, swapsNode, opOf, advance}
 use Rattle.history.specs.Histories.{Call, start, step, Moment, phaseOf, afterStart, afterStep, called, after}

@@ -15,8 +15,8 @@ use Rattle.trie.specs.Calls.{State, startOf, stepOf}
 use Rattle.trie.specs.CallLaws.{start-call-refused, step-call-refused}
 use Rattle.trie.specs.Values.{Ok, Course}
 use Rattle.decibel.specs.Told.{Told, refused, gives}
-use Rattle.history.specs.Histories.{Call, start, step, Moment, called, afterStart, afterStep, numberOf, refusal}
-use Rattle.history.specs.Base.{_∈_}
+use Rattle.history.specs.Histories.{Call, start, step, Moment, called, afterStart, afterStep, Refuses}
+use Rattle.history.specs.Lists.{_∈_}
 use Rattle.history.specs.Arrivals.{Entry, has, unseen, refreshBrings}
 use Rattle.history.specs.PutLaws.{put-same}
 use Rattle.history.specs.Order.{Memory, succeeds, advance, swapsNode}
@@ -92,14 +92,6 @@ module _ (n i : ℕ) (s : State) (m : Memory) (c : Climb) where
     brings-none k = ap (λ b. swapsNode b (c .node .0) (m .tasks i) m .reached (c .node .0)) k
 
 -- a refused call is no part of the history: it leaves all that is lent, and all that is remembered, as it was
-pub refused-nothing : (n w : ℕ) (c : Call) (t : Moment) → refusal n w c (t .state) ≢ 0 → called n w c t ≡ t
-refused-nothing n w (start i o) t d = by (startOf n w i o (t .state) .told) refl d
-  where
-    by : (x : Told Ok) → startOf n w i o (t .state) .told ≡ x → numberOf (startOf n w i o (t .state) .told) ≢ 0 → called n w (start i o) t ≡ t
-    by (refused k) e z = λ j. record { state = start-call-refused n w i o (t .state) k e j; memory = afterStart (e j) i o (t .memory) }
-    by (gives a) e z = absurd (z (ap numberOf e))
-refused-nothing n w (step i) t d = by (stepOf n w i (t .state) .told) refl d
-  where
-    by : (x : Told Course) → stepOf n w i (t .state) .told ≡ x → numberOf (stepOf n w i (t .state) .told) ≢ 0 → called n w (step i) t ≡ t
-    by (refused k) e z = λ j. record { state = step-call-refused n w i (t .state) k e j; memory = afterStep (e j) n i (t .state) (t .memory) }
-    by (gives a) e z = absurd (z (ap numberOf e))
+pub refused-nothing : (n w : ℕ) (c : Call) (t : Moment) (number : ℕ) → Refuses n w c (t .state) number → called n w c t ≡ t
+refused-nothing n w (start i o) t number e = λ j. record { state = start-call-refused n w i o (t .state) number e j; memory = afterStart (e j) i o (t .memory) }
+refused-nothing n w (step i) t number e = λ j. record { state = step-call-refused n w i (t .state) number e j; memory = afterStep (e j) n i (t .state) (t .memory) }

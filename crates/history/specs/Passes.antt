@@ -16,7 +16,9 @@ use Rattle.trie.specs.SizeLaws.{and-both}
 use Rattle.trie.specs.Tables.{usedOf}
 use Rattle.trie.specs.Record.{updateFits, leafOf, cellOf, above, climbFits}
 use Rattle.trie.specs.Refreshing.{overLeaves}
-use Rattle.history.specs.Base.{Side, Node, down, length-down, Below, Prefix, prefix-refl, all-map, all-prefix}
+use Rattle.history.specs.Lists.{Prefix}
+use Rattle.history.specs.ListLaws.{prefix-refl, all-map, all-prefix}
+use Rattle.history.specs.Nodes.{Side, Node, down, length-down, Below}
 use Rattle.history.specs.Numbers.{number, number-range, half, length-leaf, number-leaf}
 use Rattle.history.specs.Arrivals.{Op, Entry}
 use Rattle.history.specs.Machine.{Shared, Climb, Stage, at, cell}

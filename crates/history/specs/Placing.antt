@@ -12,25 +12,13 @@ use Rattle.trie.specs.declared.Operation.{Operation}
 use Rattle.trie.specs.Choice.{pick}
 use Rattle.trie.specs.Record.{cellOf}
 use Rattle.trie.specs.Values.{yes′, no′}
-use Rattle.history.specs.Base.{_∈_, All, all-nil, all-cons, all-head, all-tail}
+use Rattle.history.specs.Lists.{_∈_, All, all-nil, all-cons}
+use Rattle.history.specs.ListLaws.{all-head, all-tail}
 use Rattle.history.specs.Book.{Book, fits, write, effect, answer}
 use Rattle.history.specs.Arrivals.{Op, Entry, entry}
 use Rattle.history.specs.Replay.{Truthful, Distinct, dist-nil, dist-cons, distinct-apart, replay}
-use Rattle.history.specs.Order.{Placed, placed, places}
+use Rattle.history.specs.Order.{Placed, placed, places, ifUpdate, updates, ops}
 use Rattle.history.specs.Theorem.{Once, replay as replayOrder}
-
--- the updates of the order
-abbrev pub ifUpdate : Operation → ℕ → List Op → List Op
-ifUpdate (Operation.Update u) id s = record { id = id; update = u } ∷ s
-ifUpdate (Operation.Query q) id s = s
-
-abbrev pub updates : List Placed → List Op
-updates [] = []
-updates (p ∷ s) = ifUpdate (p .operation) (p .id) (updates s)
-
-abbrev pub ops : List Entry → List Op
-ops [] = []
-ops (e ∷ s) = e .op ∷ ops s
 
 pub ops-append : (s t : List Entry) → ops (s ++ t) ≡ ops s ++ ops t
 ops-append [] t = refl

@@ -22,7 +22,7 @@ use Rattle.trie.specs.Opening.{openNodes, openVersions, openBoard}
 use Rattle.trie.specs.OpenLaws.{open-used, open-versions-length, open-board-length, open-board-idle}
 use Rattle.trie.specs.Stepping.{Stepped}
 use Rattle.trie.specs.Calls.{State}
-use Rattle.history.specs.Base.{Node}
+use Rattle.history.specs.Nodes.{Node}
 use Rattle.history.specs.Book.{fits, mark}
 use Rattle.history.specs.Arrivals.{Op, Entry}
 use Rattle.history.specs.Machine.{Shared, nothing, atNode, atLeft, atBoth, Climb, Worker, idle as resting, reading, swapping, climbing, answered, at, goUp, missed, nodeTry, cell, leafRead, leafTry, stepW}

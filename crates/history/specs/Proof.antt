@@ -24,12 +24,14 @@ use Rattle.trie.specs.Opening.{openNodes, openVersions, openBoard}
 use Rattle.trie.specs.OpenLaws.{open-board-idle}
 use Rattle.trie.specs.Calls.{State, state, After, after as made, openOf, startOf, stepOf}
 use Rattle.trie.specs.CallLaws.{Ready, lent-ready, open-lent, open-ready, open-accepted, start-call-refused, step-call-refused, manned-long}
-use Rattle.history.specs.Base.{Side, Node, down, Below, below-self, below-up, _∈_, all-nil, all-map, all-at}
+use Rattle.history.specs.Lists.{_∈_, all-nil}
+use Rattle.history.specs.ListLaws.{all-map, all-at}
+use Rattle.history.specs.Nodes.{Side, Node, down, Below, below-self, below-up}
 use Rattle.history.specs.Numbers.{number, half, length-leaf, number-leaf}
 use Rattle.history.specs.Book.{blank}
 use Rattle.history.specs.Arrivals.{Entry, entry}
-use Rattle.history.specs.Order.{Placed, placed, Answered, Memory, nothingYet}
-use Rattle.history.specs.Histories.{Call, start, step, Moment, phaseOf, afterStart, afterStep, called, after, history, numberOf, refusal}
+use Rattle.history.specs.Order.{Placed, placed, Answered, Memory, nothingYet, updates, ops}
+use Rattle.history.specs.Histories.{Call, start, step, Moment, phaseOf, afterStart, afterStep, called, after, history, Refuses, Accepts}
 use Rattle.history.specs.Theorem.{replay, Once, Stands, Before, Shows, Reached, Holds, EveryHistoryIsABook}
 use Rattle.history.specs.Machine.{at, cell, initial}
 use Rattle.history.specs.Machine.{State as Machine}
@@ -43,9 +45,11 @@ use Rattle.history.specs.Promise.{open-promise, promise-room}
 use Rattle.history.specs.Asked.{root-whole, root-shows}
 use Rattle.history.specs.Beneath.{root-shown}
 use Rattle.history.specs.Chronicle.{stands-before}
-use Rattle.history.specs.Placing.{updates, ops, same-book}
+use Rattle.history.specs.Placing.{same-book}
 use Rattle.history.specs.Replay.{view, replay-at}
 use Rattle.history.specs.Tied.{Came, Querying, resting, Tied}
+use Rattle.history.specs.OrderGrows.{order-grows}
+use Rattle.history.specs.OwnSteps.{asks, counted}
 use Rattle.history.specs.StepCalls.{Belongs, StepTold, step-told}
 use Rattle.history.specs.StartCalls.{StartTold, start-told}
 
@@ -161,24 +165,24 @@ module _ (n w : ℕ) (t : Moment) (b : Belongs n w (t .state) (t .memory)) where
   abbrev m : Memory
   m = t .memory
 
-  undamaged : (c : Call) → refusal n w c (t .state) ≢ 9
+  undamaged : (c : Call) → ¬ Refuses n w c (t .state) 9
   undamaged (start i o) = by (start-told n w i o (t .state) (t .memory) b)
     where
-      by : StartTold n w i o (t .state) (t .memory) → numberOf (startOf n w i o (t .state) .told) ≢ 9
-      by (StartTold.turned-away k e d) f = d (sym (ap numberOf e) ∙ f)
-      by (StartTold.accepted e z) f = let y : _≡_ {A = ℕ} 0 9 = sym (ap numberOf e) ∙ f in omega arith
+      by : StartTold n w i o (t .state) (t .memory) → ¬ Refuses n w (start i o) (t .state) 9
+      by (StartTold.turned-away k e d) f = d (cc)
+      by (StartTold.accepted e z) f = absurd (let y : _≡_ {A = ℕ} 0 1 = cc in omega arith)
   undamaged (step i) = by (step-told n w i (t .state) (t .memory) b)
     where
-      by : StepTold n w i (t .state) (t .memory) → numberOf (stepOf n w i (t .state) .told) ≢ 9
-      by (StepTold.turned-away k e d g) f = d (sym (ap numberOf e) ∙ f)
-      by (StepTold.accepted course e z) f = let y : _≡_ {A = ℕ} 0 9 = sym (ap numberOf e) ∙ f in omega arith
+      by : StepTold n w i (t .state) (t .memory) → ¬ Refuses n w (step i) (t .state) 9
+      by (StepTold.turned-away k e d g) f = d (cc)
+      by (StepTold.accepted course e z) f = absurd (let y : _≡_ {A = ℕ} 0 1 = cc in omega arith)
 
-  goes-on : (i : ℕ) → i < w → busyPhase (phaseOf i (t .state)) ≡ true → refusal n w (step i) (t .state) ≡ 0
+  goes-on : (i : ℕ) → i < w → busyPhase (phaseOf i (t .state)) ≡ true → Accepts n w i (t .state)
   goes-on i l busy = by (step-told n w i (t .state) (t .memory) b)
     where
-      by : StepTold n w i (t .state) (t .memory) → numberOf (stepOf n w i (t .state) .told) ≡ 0
+      by : StepTold n w i (t .state) (t .memory) → Accepts n w i (t .state)
       by (StepTold.turned-away k e d g) = absurd (let y : false ≡ true = sym (g l) ∙ busy in let z : _≡_ {A = ℕ} 0 1 = cc in omega arith)
-      by (StepTold.accepted course e z) = ap numberOf e
+      by (StepTold.accepted course e z) = record { course = course; is = e }
 
   precedes : (p q : Placed) (a : Answered) → p ∈ m .order → q ∈ m .order → m .lives (p .id) .answer ≡ some a → a .moment < m .lives (q .id) .started → Before p q (m .order)
   precedes p q a k l e f = stands-before (m .order) p q (T .chronicle .sorted) k l (by (T .chronicle .stands (p .id) a (all-at (T .chronicle .started) k .0) e))
@@ -225,6 +229,9 @@ module _ (n w : ℕ) (t : Moment) (b : Belongs n w (t .state) (t .memory)) where
   holds =
       record {
         undamaged = undamaged;
+        of-the-root = T .placed ∙ ap ops (sym (T .remembers .reached [] (omega arith)));
+        asks = asks n w t;
+        kept = λ calls. order-grows n w calls t;
         once = T .chronicle .once;
         started = all-map (λ p k. (k .0, k .1)) (T .chronicle .started);
         stands = T .chronicle .stands;
@@ -234,16 +241,10 @@ module _ (n w : ℕ) (t : Moment) (b : Belongs n w (t .state) (t .memory)) where
         in-time = T .chronicle .in-time;
         carried = T .carried;
         goes-on = goes-on;
+        counted = counted n w t;
         room = promise-room (t .state) (T .promise);
         reached = reached;
       }
-
--- the updates of the order are those that have reached the root, as they came
-pub order-of-the-root : (n w : ℕ) (s : State) (calls : List Call) → openOf n w s .told ≡ gives ok → updates (history n w s calls .memory .order) ≡ ops (history n w s calls .memory .reached 1)
-order-of-the-root n w s calls told = by (calls-belong n w calls (record { state = openOf n w s .state; memory = nothingYet }) (open-belongs n w s told))
-  where
-    by : Belongs n w (history n w s calls .state) (history n w s calls .memory) → updates (history n w s calls .memory .order) ≡ ops (history n w s calls .memory .reached 1)
-    by b = b .tied .placed ∙ ap ops (sym (b .tied .remembers .reached [] (omega arith)))
 
 pub every-history-is-a-book : EveryHistoryIsABook
 every-history-is-a-book n w s calls told = holds n w (history n w s calls) (calls-belong n w calls (record { state = openOf n w s .state; memory = nothingYet }) (open-belongs n w s told))

@@ -18,11 +18,11 @@ use Rattle.trie.specs.Record.{busyPhase}
 use Rattle.trie.specs.Values.{Course, on, done}
 use Rattle.trie.specs.Stepping.{Stepped}
 use Rattle.trie.specs.Calls.{State}
-use Rattle.history.specs.Base.{All}
+use Rattle.history.specs.Lists.{All}
 use Rattle.history.specs.Book.{Book, blank, answer}
 use Rattle.history.specs.PutLaws.{put-same}
 use Rattle.history.specs.Replay.{view, replay-at}
-use Rattle.history.specs.Order.{Placed, placed, Memory, memory, answerOf, advance}
+use Rattle.history.specs.Order.{Placed, placed, Memory, memory, answerOf, advance, updates}
 use Rattle.history.specs.Histories.{phaseOf}
 use Rattle.history.specs.Theorem.{replay, Stands, mostSteps}
 use Rattle.history.specs.Machine.{Shared, idle, at, settled}
@@ -31,7 +31,7 @@ use Rattle.history.specs.View.{Resting, rests}
 use Rattle.history.specs.Walks.{Under, finding, ranking, selecting}
 use Rattle.history.specs.Asked.{Turns, answers, onward as goes, under-busy, under-resting}
 use Rattle.history.specs.Chronicle.{Places, Turn, onward, same-operation}
-use Rattle.history.specs.Placing.{updates, updates-append, same-book}
+use Rattle.history.specs.Placing.{updates-append, same-book}
 use Rattle.history.specs.Tied.{Open, Place, Querying, resting, walking, Tied}
 use Rattle.history.specs.TiedCalls.{Call, step-tied}
 

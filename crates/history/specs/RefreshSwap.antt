@@ -11,7 +11,9 @@ use native.Mathlib.Decide.{ℕ-discrete}
 use native.Mathlib.Omega.{arith}
 use lib.ListN.{length}
 use Rattle.trie.specs.Record.{cellOf}
-use Rattle.history.specs.Base.{Side, lo, hi, Node, Node-discrete, Below, below-length, below-up, below-one, lo≢hi, _∈_, Prefix, prefix-trans, All, all-nil, all-map, all-append, all-prefix, all-rest, all-at, all-intro}
+use Rattle.history.specs.Lists.{_∈_, Prefix, All, all-nil}
+use Rattle.history.specs.ListLaws.{prefix-trans, all-map, all-append, all-prefix, all-rest, all-at, all-intro}
+use Rattle.history.specs.Nodes.{Side, lo, hi, Node, Node-discrete, Below, below-length, below-up, below-one, lo≢hi}
 use Rattle.history.specs.Numbers.{leaf, place, length-leaf, place-leaf, leaf-place}
 use Rattle.history.specs.Arrivals.{Op, Entry, unseen, refreshBrings}
 use Rattle.history.specs.PutLaws.{put-all, put-same}

@@ -6,7 +6,9 @@ use mathlib.Core.Bool.{Bool, true, false}
 use mathlib.Core.List.{List, _∷_}
 use Prim.Native.Nat.{ℕ}
 use native.Mathlib.Omega.{arith}
-use Rattle.history.specs.Base.{Side, lo, hi, Node, below-up, _∈_, prefix-refl}
+use Rattle.history.specs.Lists.{_∈_}
+use Rattle.history.specs.ListLaws.{prefix-refl}
+use Rattle.history.specs.Nodes.{Side, lo, hi, Node, below-up}
 use Rattle.history.specs.Arrivals.{Entry}
 use Rattle.history.specs.Machine.{either, Shared, Stage, nothing, atNode, atLeft, atBoth, Climb, Worker, idle, reading, swapping, climbing, answered, at, second, missed, climbStep}
 use Rattle.history.specs.Invariant.{Closed, Known, its, Late, Knows, PairOk, OnClimb, Pair, SpotOk, SawOk, ClimbOk, WorkerOk}

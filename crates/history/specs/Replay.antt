@@ -12,7 +12,8 @@ use lib.Dec.{eqb}
 use Rattle.trie.specs.declared.Update.{Update}
 use Rattle.trie.specs.Choice.{pick}
 use Rattle.trie.specs.Record.{cellOf}
-use Rattle.history.specs.Base.{_∈_, All, all-nil, all-cons, all-head, all-tail, all-map, all-append, all-left, all-right, all-at, all-intro}
+use Rattle.history.specs.Lists.{_∈_, All, all-nil, all-cons}
+use Rattle.history.specs.ListLaws.{all-head, all-tail, all-map, all-append, all-left, all-right, all-at, all-intro}
 use Rattle.history.specs.Book.{Book, fits, want, after, turn, write}
 use Rattle.history.specs.Arrivals.{Op, Entry, entry, refused, others, has, unseen}
 

@@ -35,7 +35,7 @@ use Rattle.trie.specs.Values.{yes′, no′, Course, on, done}
 use Rattle.trie.specs.Leaf.{goesOn, marked, asWanted, wanted, climbsFrom, climbs, swapped, readOf, swapOf}
 use Rattle.trie.specs.Refreshing.{overLeaves, rises, sumOf, joinOf, refreshOf}
 use Rattle.trie.specs.Stepping.{Stepped, planPhase, planOf, afterNext, carryOf, stepRecordOf}
-use Rattle.history.specs.Base.{Side, lo, hi, Node, below-length}
+use Rattle.history.specs.Nodes.{Side, lo, hi, Node, below-length}
 use Rattle.history.specs.Numbers.{number, number-pos, half, length-leaf}
 use Rattle.history.specs.Book.{fits, want, mark, levelIf}
 use Rattle.history.specs.Arrivals.{Op, Entry}

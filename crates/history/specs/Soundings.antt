@@ -1,4 +1,4 @@
--- The theorem is not about nothing: document 01's D1 and R1, and a worker that stops for ever, as histories that compute.
+-- The theorem is not about nothing: a worker that stops for ever, and each clause of the order, as histories that compute.
 -- Assumes nothing.
 use mathlib.Core.Path.{_≡_, refl}
 use mathlib.Core.List.{List, [], _∷_, _++_}
@@ -22,25 +22,15 @@ use Rattle.trie.specs.Asking.{askOf, lookOf, findOf, rankOf, selectOf}
 use Rattle.trie.specs.Stepping.{planOf, carryOf, stepRecordOf}
 use Rattle.trie.specs.Values.{Value, yes′, no′, none, level, sums, ok}
 use Rattle.trie.specs.Calls.{State, state, openOf, startOf, stepOf, manned}
+use Rattle.trie.specs.Runs.{repeat, lent, insert}
 use Rattle.history.specs.Order.{Placed, placed, Answered}
 use Rattle.history.specs.Histories.{Call, start, step, Moment, history}
 use Rattle.history.specs.Theorem.{Holds}
 use Rattle.history.specs.Proof.{every-history-is-a-book}
 use Rattle.decibel.specs.Told.{gives}
 
-abbrev repeat : {A : Type 0} → ℕ → A → List A
-repeat zero a = []
-repeat (suc n) a = a ∷ repeat n a
-
--- tables of n cells and V versions that hold anything, and three workers
-abbrev lent : ℕ → ℕ → State
-lent n room = state (repeat (2 * n) 7) (repeat (5 * room) 9) (repeat 3 idle)
-
 abbrev steps : ℕ → ℕ → List Call
 steps times worker = repeat times (step worker)
-
-abbrev insert : ℕ → ℕ → Operation
-insert k l = Operation.Update (Update.Insert k (record { 0 = l }))
 
 -- the order, by the numbers of the starts
 abbrev ids : List Placed → List ℕ
@@ -58,62 +48,14 @@ answer t i = gave (t .memory .lives i .answer)
 abbrev own : Moment → ℕ → ℕ
 own t i = t .memory .lives i .steps
 
--- D1: A, B and C are the starts 0, 1 and 2, in the workers 0, 1 and 2
-abbrev d1-calls : List Call
-d1-calls =
-    start 0 (insert 0 10) ∷ start 1 (insert 1 20) ∷ start 2 (insert 1 30)
-    ∷ steps 2 0 ++ (steps 2 1 ++ (steps 1 0 ++ (steps 4 1 ++ (steps 3 0 ++ (steps 1 0 ++ (steps 5 2 ++ (steps 3 0 ++ (start 1 (Operation.Query Query.Total) ∷ step 1 ∷ []))))))))
-
-abbrev d1 : Moment
-d1 = history 2 3 (lent 2 9) d1-calls
-
-pub record D1 : Type 0 where
-  pub order : ids (d1 .memory .order) ≡ 0 ∷ 1 ∷ 2 ∷ 3 ∷ []
-  pub a : (answer d1 0 ≡ some yes′) × (own d1 0 ≡ 10)
-  pub b : answer d1 1 ≡ some yes′
-  pub c : answer d1 2 ≡ some no′
-  pub total : answer d1 3 ≡ some (sums 2 110000)
-  pub used : usedOf (d1 .state .nodes) ≡ 7
-
-pub d1-holds : D1
-unfolding ℕ-discrete ones trailingZeros energyOf above climbFits allowed heightOf roomOf versionAt versionPut roomy boundsOf usedSound soundAt soundIn filled startRecordOf readOf swapOf joinOf refreshOf askOf lookOf findOf rankOf selectOf planOf carryOf stepRecordOf openOf startOf stepOf manned
-d1-holds = record { order = refl; a = (refl, refl); b = refl; c = refl; total = refl; used = refl }
-
--- so it is one of the histories that the theorem is about
-d1-opens : openOf 2 3 (lent 2 9) .told ≡ gives ok
-unfolding ℕ-discrete ones trailingZeros energyOf above climbFits allowed heightOf roomOf versionAt versionPut roomy boundsOf usedSound soundAt soundIn filled startRecordOf readOf swapOf joinOf refreshOf askOf lookOf findOf rankOf selectOf planOf carryOf stepRecordOf openOf startOf stepOf manned
-d1-opens = refl
-
-pub d1-is-a-book : Holds 2 3 d1
-d1-is-a-book = every-history-is-a-book 2 3 (lent 2 9) d1-calls d1-opens
-
--- R1: A and B are the starts 0 and 1; Find(3), the start 2, is asked when B has answered and A has not
-abbrev r1-find : Moment
-r1-find =
-    history 4 3 (lent 4 13)
-    (start 0 (insert 3 40) ∷ start 1 (insert 3 30) ∷ step 0 ∷ step 1 ∷ step 0 ∷ step 1
-    ∷ steps 8 1 ++ (start 2 (Operation.Query (Query.Find 3)) ∷ steps 3 2))
-
-abbrev r1 : Moment
-r1 = Rattle.history.specs.Histories.after 4 3 (steps 8 0) r1-find
-
-pub record R1 : Type 0 where
-  pub b : (answer r1-find 1 ≡ some no′) × (own r1-find 1 ≡ 10)
-  pub a-under-way : answer r1-find 0 ≡ none
-  pub find : answer r1-find 2 ≡ some (level 40)
-  pub a : answer r1 0 ≡ some yes′
-  pub used : usedOf (r1 .state .nodes) ≡ 12
-
-pub r1-holds : R1
-unfolding ℕ-discrete ones trailingZeros energyOf above climbFits allowed heightOf roomOf versionAt versionPut roomy boundsOf usedSound soundAt soundIn filled startRecordOf readOf swapOf joinOf refreshOf askOf lookOf findOf rankOf selectOf planOf carryOf stepRecordOf openOf startOf stepOf manned
-r1-holds = record { b = (refl, refl); a-under-way = refl; find = refl; a = refl; used = refl }
-
 -- A, start 0, stops for ever after it has read the root's version; B and C and a Total, the starts 1, 2 and 3, still answer in time
+abbrev stopped-calls : List Call
+stopped-calls =
+    start 0 (insert 0 10) ∷ steps 3 0 ++ (start 1 (insert 1 20) ∷ steps 6 1
+    ++ (start 2 (Operation.Update (Update.Delete 0)) ∷ steps 6 2 ++ (start 1 (Operation.Query Query.Total) ∷ step 1 ∷ [])))
+
 abbrev stopped : Moment
-stopped =
-    history 2 3 (lent 2 9)
-    (start 0 (insert 0 10) ∷ steps 3 0 ++ (start 1 (insert 1 20) ∷ steps 6 1
-    ++ (start 2 (Operation.Update (Update.Delete 0)) ∷ steps 6 2 ++ (start 1 (Operation.Query Query.Total) ∷ step 1 ∷ []))))
+stopped = history 2 3 (lent 2 3 9) stopped-calls
 
 pub record Stopped : Type 0 where
   pub a : (answer stopped 0 ≡ none) × (own stopped 0 ≡ 3)
@@ -126,34 +68,42 @@ pub stopped-holds : Stopped
 unfolding ℕ-discrete ones trailingZeros energyOf above climbFits allowed heightOf roomOf versionAt versionPut roomy boundsOf usedSound soundAt soundIn filled startRecordOf readOf swapOf joinOf refreshOf askOf lookOf findOf rankOf selectOf planOf carryOf stepRecordOf openOf startOf stepOf manned
 stopped-holds = record { a = (refl, refl); b = (refl, refl); c = (refl, refl); total = (refl, refl); order = refl }
 
+-- so it is one of the histories that the theorem is about
+stopped-opens : openOf 2 3 (lent 2 3 9) .told ≡ gives ok
+unfolding ℕ-discrete ones trailingZeros energyOf above climbFits allowed heightOf roomOf versionAt versionPut roomy boundsOf usedSound soundAt soundIn filled startRecordOf readOf swapOf joinOf refreshOf askOf lookOf findOf rankOf selectOf planOf carryOf stepRecordOf openOf startOf stepOf manned
+stopped-opens = refl
+
+pub stopped-is-a-book : Holds 2 3 stopped
+stopped-is-a-book = every-history-is-a-book 2 3 (lent 2 3 9) stopped-calls stopped-opens
+
 -- A, B and C, the starts 0, 1 and 2, insert into one cell and read it in the order C, B, A. B's swap succeeds: just behind it stand C and A, in the order of their reads
 abbrev losers : Moment
 losers =
-    history 2 3 (lent 2 9)
+    history 2 3 (lent 2 3 9)
     (start 0 (insert 0 10) ∷ start 1 (insert 0 20) ∷ start 2 (insert 0 30) ∷ step 2 ∷ step 1 ∷ step 0 ∷ steps 5 1)
 
 -- A inserts into cell 3, then B into cell 0, each up to its node below the root; A's refresh of the root brings both: left before right
 abbrev sides : Moment
 sides =
-    history 4 3 (lent 4 20)
+    history 4 3 (lent 4 3 20)
     (start 0 (insert 3 10) ∷ start 1 (insert 0 20) ∷ steps 6 0 ++ (steps 6 1 ++ steps 4 0))
 
 -- A inserts into cell 0 and B into cell 1, but B reaches the node above both first; A's refresh of the root brings both, in their order at that node
 abbrev turns : Moment
 turns =
-    history 4 3 (lent 4 20)
+    history 4 3 (lent 4 3 20)
     (start 0 (insert 0 10) ∷ start 1 (insert 1 20) ∷ steps 6 1 ++ steps 10 0)
 
 -- B finds cell 1 as A has made it, and is there behind A; C, who finds it unmarked and wants it so, was there before
 abbrev found : Moment
 found =
-    history 2 3 (lent 2 9)
+    history 2 3 (lent 2 3 9)
     (start 0 (insert 1 10) ∷ start 1 (insert 1 20) ∷ start 2 (Operation.Update (Update.Delete 1)) ∷ step 2 ∷ steps 2 0 ++ (step 1 ∷ steps 4 0))
 
 -- moments are numbers of accepted calls: a Total, a step that is refused, and another Total
 abbrev counted : Moment
 counted =
-    history 2 3 (lent 2 9)
+    history 2 3 (lent 2 3 9)
     (start 0 (Operation.Query Query.Total) ∷ step 0 ∷ step 0 ∷ start 0 (Operation.Query Query.Total) ∷ [])
 
 pub record Orders : Type 0 where

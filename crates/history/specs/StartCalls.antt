@@ -26,7 +26,7 @@ use Rattle.trie.specs.Values.{Ok, ok}
 use Rattle.trie.specs.Starting.{Started, begun, startRecordOf}
 use Rattle.trie.specs.Calls.{State, After, startAt, startOf}
 use Rattle.trie.specs.CallLaws.{Ready, lent-ready, start-lent, start-of-record, start-no-worker, manned-long}
-use Rattle.history.specs.Base.{all-map}
+use Rattle.history.specs.ListLaws.{all-map}
 use Rattle.history.specs.Arrivals.{Op}
 use Rattle.history.specs.PutLaws.{put-all, put-same, put-other}
 use Rattle.history.specs.Order.{Memory, begin}

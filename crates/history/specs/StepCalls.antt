@@ -23,7 +23,8 @@ use Rattle.trie.specs.Values.{Course}
 use Rattle.trie.specs.Stepping.{Stepped, stepRecordOf}
 use Rattle.trie.specs.Calls.{State, state, After, manned, stepAt, stepOf}
 use Rattle.trie.specs.CallLaws.{Ready, lent-ready, step-lent, step-of-record, step-no-worker, manned-long}
-use Rattle.history.specs.Base.{_∈_, All, all-nil, all-cons, all-at}
+use Rattle.history.specs.Lists.{_∈_, All, all-nil, all-cons}
+use Rattle.history.specs.ListLaws.{all-at}
 use Rattle.history.specs.Book.{blank}
 use Rattle.history.specs.PutLaws.{put-same}
 use Rattle.history.specs.Replay.{view as booked}

@@ -1,5 +1,5 @@
 -- The third demand: what holds at every moment of every history. Its proof is in Proof.antt.
--- Every name here leads to Book, Arrivals, Order and Histories, and to the tree's own definitions. Assumes nothing.
+-- Every name here leads to Lists, Book, Arrivals, Put, Order and Histories, and to the tree's own definitions. Assumes nothing.
 use mathlib.Core.Path.{_≡_}
 use mathlib.Core.Logic.{_≢_}
 use mathlib.Core.Bool.{Bool, true}
@@ -13,18 +13,19 @@ use Rattle.trie.specs.declared.Version.{Version}
 use Rattle.trie.specs.declared.Update.{Update}
 use Rattle.trie.specs.declared.Query.{Query}
 use Rattle.trie.specs.declared.Operation.{Operation}
+use Rattle.trie.specs.declared.Phase.{Phase}
 use Rattle.trie.specs.declared.Promised.{Promised}
 use Rattle.trie.specs.Choice.{pick}
 use Rattle.trie.specs.Size.{heightOf}
 use Rattle.trie.specs.Tables.{usedOf, currentOf, roomOf, versionAt}
 use Rattle.trie.specs.Record.{busyPhase, cellOf, promisedOf}
-use Rattle.trie.specs.Values.{Value, yes′, no′, ok}
-use Rattle.trie.specs.Calls.{State, openOf}
-use Rattle.history.specs.Base.{_∈_, All}
+use Rattle.trie.specs.Values.{Value, Course, yes′, no′, ok}
+use Rattle.trie.specs.Calls.{State, openOf, stepOf}
+use Rattle.history.specs.Lists.{_∈_, Prefix, All}
 use Rattle.history.specs.Book.{Book, blank, effect, ones, weights, sum, answer, mark}
 use Rattle.history.specs.Arrivals.{entry}
-use Rattle.history.specs.Order.{Placed, placed, Answered, Life, Memory}
-use Rattle.history.specs.Histories.{Call, step, Moment, history, refusal, phaseOf}
+use Rattle.history.specs.Order.{Placed, placed, updates, ops, Answered, Life, Memory}
+use Rattle.history.specs.Histories.{Call, step, Moment, called, after, history, Refuses, Accepts, phaseOf}
 
 -- the book after the operations of a list, in its order
 abbrev pub replay : Book → List Placed → Book
@@ -106,7 +107,12 @@ module _ (n w : ℕ) (t : Moment) where
 
   pub record Holds : Type 0 where
     -- a: no call ever gives 9
-    pub undamaged : (c : Call) → refusal n w c (t .state) ≢ 9
+    pub undamaged : (c : Call) → ¬ Refuses n w c (t .state) 9
+    -- the order: updates as they reach the root, each query at its reading of the root, and a place once given is kept
+    pub of-the-root : updates order ≡ ops (t .memory .reached 1)
+    pub asks : (i : ℕ) (q : Query) (course : Course) → phaseOf i (t .state) ≡ Phase.Ask q → stepOf n w i (t .state) .told ≡ gives course
+        → called n w (step i) t .memory .order ≡ order ++ (placed (t .memory .tasks i .id) (Operation.Query q) (t .memory .moment) ∷ [])
+    pub kept : (calls : List Call) → Prefix order (after n w calls t .memory .order)
     -- b: nothing stands twice, nothing that was not started, and each answered operation stands in the order
     pub once : Once order
     pub started : All (λ p. (p .id < t .memory .starts) × (its (p .id) .operation ≡ p .operation)) order
@@ -117,10 +123,13 @@ module _ (n w : ℕ) (t : Moment) where
     pub precedes : (p q : Placed) (a : Answered) → p ∈ order → q ∈ order → its (p .id) .answer ≡ some a → a .moment < its (q .id) .started → Before p q order
     -- e: the root's version shows the book of all updates placed so far
     pub shows : Shows (heightOf n) (t .state .versions) (currentOf (t .state .nodes) 1 .0) (replay blank order)
-    -- f: whatever the others do, an operation answers in time: until then a worker has it, whose step is never refused
+    -- f: whatever the others do, an operation answers in time: until then a worker has it, whose step is never refused, and
+    -- every accepted step is one own step of the worker's operation and of no other
     pub in-time : (id : ℕ) → id < t .memory .starts → InTime (heightOf n) (its id .operation) (its id .steps) (its id .answer)
     pub carried : (id : ℕ) → id < t .memory .starts → its id .answer ≡ none → Carried w (t .state) (t .memory) id
-    pub goes-on : (i : ℕ) → i < w → busyPhase (phaseOf i (t .state)) ≡ true → refusal n w (step i) (t .state) ≡ 0
+    pub goes-on : (i : ℕ) → i < w → busyPhase (phaseOf i (t .state)) ≡ true → Accepts n w i (t .state)
+    pub counted : (i : ℕ) (course : Course) → stepOf n w i (t .state) .told ≡ gives course
+        → (id : ℕ) → called n w (step i) t .memory .lives id .steps ≡ pick (eqb id (t .memory .tasks i .id)) 1 0 + its id .steps
     -- g: an accepted update never lacks a version
     pub room : Room (heightOf n + 1) w (t .state)
     -- h: an answered update has reached every node on its cell's path

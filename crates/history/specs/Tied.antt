@@ -19,10 +19,11 @@ use Rattle.trie.specs.Record.{busyPhase, queryFits}
 use Rattle.trie.specs.Values.{Value, yes′, no′}
 use Rattle.trie.specs.Calls.{State}
 use Rattle.trie.specs.CallLaws.{Ready}
-use Rattle.history.specs.Base.{_∈_, All, all-map, all-append}
+use Rattle.history.specs.Lists.{_∈_, All}
+use Rattle.history.specs.ListLaws.{all-map, all-append}
 use Rattle.history.specs.Book.{blank}
 use Rattle.history.specs.Arrivals.{Op, entry}
-use Rattle.history.specs.Order.{Placed, placed, Answered, Memory}
+use Rattle.history.specs.Order.{Placed, placed, Answered, Memory, updates, ops}
 use Rattle.history.specs.Histories.{phaseOf}
 use Rattle.history.specs.Theorem.{replay, mostSteps, Carried}
 use Rattle.history.specs.Machine.{Shared, Worker, idle, reading, swapping, climbing, answered, at}
@@ -34,7 +35,6 @@ use Rattle.history.specs.Promise.{Promise}
 use Rattle.history.specs.Walks.{Under, under-grow}
 use Rattle.history.specs.Counted.{stepsLeft}
 use Rattle.history.specs.Chronicle.{Chronicle}
-use Rattle.history.specs.Placing.{updates, ops}
 use Rattle.history.specs.Following.{Remembers, Tasked}
 
 -- an operation that was started, and has no answer yet

@@ -16,10 +16,11 @@ use Rattle.trie.specs.Size.{heightOf}
 use Rattle.trie.specs.Record.{busyPhase}
 use Rattle.trie.specs.Calls.{State}
 use Rattle.trie.specs.CallLaws.{Ready}
-use Rattle.history.specs.Base.{mem-prefix, All, all-nil, all-zip}
+use Rattle.history.specs.Lists.{All, all-nil}
+use Rattle.history.specs.ListLaws.{mem-prefix, all-zip}
 use Rattle.history.specs.Arrivals.{Op, Entry}
 use Rattle.history.specs.PutLaws.{put-all, put-same, put-other}
-use Rattle.history.specs.Order.{Placed, Answered, Task, task, Memory, memory, begin}
+use Rattle.history.specs.Order.{Placed, Answered, Task, task, Memory, memory, begin, updates, ops}
 use Rattle.history.specs.Histories.{phaseOf}
 use Rattle.history.specs.Theorem.{Carried}
 use Rattle.history.specs.Machine.{Shared, Worker, at, settled}
@@ -29,7 +30,6 @@ use Rattle.history.specs.View.{View, Shown}
 use Rattle.history.specs.Promise.{Promise}
 use Rattle.history.specs.Kept.{Later}
 use Rattle.history.specs.Chronicle.{Places, Turn, onward, chronicle-step, chronicle-start, same-operation}
-use Rattle.history.specs.Placing.{updates, ops}
 use Rattle.history.specs.Following.{Remembers, Tasked}
 use Rattle.history.specs.Tied.{Entered, Came, UnderWay, busy-started, Onward, under-way-kept, Tied}
 

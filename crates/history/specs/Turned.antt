@@ -8,7 +8,7 @@ use native.Mathlib.Decide.{ℕ-discrete}
 use Rattle.trie.specs.Choice.{pick}
 use Rattle.trie.specs.Values.{yes′, no′, Course, on, done}
 use Rattle.decibel.specs.Told.{gives}
-use Rattle.history.specs.Base.{Node}
+use Rattle.history.specs.Nodes.{Node}
 use Rattle.history.specs.Book.{fits, mark}
 use Rattle.history.specs.Arrivals.{Op, Entry}
 use Rattle.history.specs.Machine.{Shared, nothing, atNode, atLeft, atBoth, Climb, Worker, idle, reading, swapping, climbing, answered, at, cell, goUp, missed, leafRead, leafTry, nodeTry, stepW}

@@ -18,13 +18,14 @@ use Rattle.trie.specs.Values.{yes′, no′, Course}
 use Rattle.trie.specs.Calls.{State}
 use Rattle.trie.specs.Record.{busyPhase}
 use Rattle.history.specs.View.{Shown}
-use Rattle.history.specs.Base.{_∈_, All, all-map, all-append, all-at, all-right, all-intro}
+use Rattle.history.specs.Lists.{_∈_, All}
+use Rattle.history.specs.ListLaws.{all-map, all-append, all-at, all-right, all-intro}
 use Rattle.history.specs.Book.{blank}
 use Rattle.history.specs.Arrivals.{Op, Entry, entry}
 use Rattle.history.specs.Put.{put}
 use Rattle.history.specs.PutLaws.{put-same}
 use Rattle.history.specs.Replay.{Truthful, truthful-by-cells, Distinct, distinct-right}
-use Rattle.history.specs.Order.{Placed, placed, Answered, life, Memory, memory, places, advance, answerOf, lived}
+use Rattle.history.specs.Order.{Placed, placed, Answered, life, Memory, memory, places, advance, answerOf, lived, updates, ops}
 use Rattle.history.specs.Histories.{phaseOf}
 use Rattle.history.specs.Theorem.{Once, Stands, mostSteps}
 use Rattle.history.specs.Machine.{Shared, nothing, atNode, atLeft, atBoth, Worker, reading, swapping, climbing, at, stepW, settled}
@@ -36,7 +37,7 @@ use Rattle.history.specs.Simulation.{Working, atRead, atSwap, atClimb, w
 use Rattle.history.specs.Counted.{stepsLeft, left-step}
 use Rattle.history.specs.Turned.{Turned, still, ended, Outcome, turns, courseOf, same-numbers}
 use Rattle.history.specs.Chronicle.{Turn, onward, once-append, same-operation}
-use Rattle.history.specs.Placing.{updates, ops, ops-append, updates-append, updates-places, Found, found, not-placed, once-places, all-places}
+use Rattle.history.specs.Placing.{ops-append, updates-append, updates-places, Found, found, not-placed, once-places, all-places}
 use Rattle.history.specs.Following.{Tasked, Advanced, advanced}
 use Rattle.history.specs.Tied.{Came, Updating, UnderWay, Tied}
 use Rattle.history.specs.TiedCalls.{Call, Step, step-tied}

@@ -8,7 +8,7 @@ use Rattle.trie.specs.declared.Climb.{Climb}
 use Rattle.trie.specs.declared.Held.{Held}
 use Rattle.trie.specs.declared.Phase.{Phase}
 use Rattle.trie.specs.Tables.{usedOf, versionAt}
-use Rattle.history.specs.Base.{Node}
+use Rattle.history.specs.Nodes.{Node}
 use Rattle.history.specs.Numbers.{number}
 use Rattle.history.specs.Machine.{Shared, Stage, nothing, atNode, atLeft, atBoth, Worker, idle, reading, swapping, climbing, answered, at}
 

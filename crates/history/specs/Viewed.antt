@@ -11,7 +11,7 @@ use lib.Seq.{getD-set-same, getD-set-other}
 use Rattle.trie.specs.declared.Version.{Version}
 use Rattle.trie.specs.Tables.{roomOf, usedOf, versionAt, versionPut}
 use Rattle.trie.specs.TableLaws.{put-same as version-put-same, put-other as version-put-other, room-length}
-use Rattle.history.specs.Base.{Side, lo, hi, Node, Node-discrete}
+use Rattle.history.specs.Nodes.{Side, lo, hi, Node, Node-discrete}
 use Rattle.history.specs.Numbers.{number, number-pos, number-range, number-inj}
 use Rattle.history.specs.Arrivals.{Op, Entry}
 use Rattle.history.specs.PutLaws.{put-all}
