@@ -1,14 +1,12 @@
 -- A place once given is kept: every call leaves the order as it was, or adds to its end.
 -- Assumes nothing.
 use mathlib.Core.Bool.{Bool, true, false}
-use mathlib.Core.List.{List, [], _∷_, _++_}
-use Prim.Native.Nat.{ℕ, _+_, _*_}
-use lib.Dec.{eqb}
+use mathlib.Core.List.{List, [], _∷_}
+use Prim.Native.Nat.{ℕ, _+_}
 use Rattle.decibel.specs.Told.{Told, refused, gives}
 use Rattle.trie.specs.declared.Held.{Held}
 use Rattle.trie.specs.declared.Operation.{Operation}
 use Rattle.trie.specs.declared.Phase.{Phase}
-use Rattle.trie.specs.Choice.{pick}
 use Rattle.trie.specs.Tables.{currentOf, versionAt}
 use Rattle.trie.specs.Record.{cellOf}
 use Rattle.trie.specs.Leaf.{asWanted}
@@ -17,7 +15,7 @@ use Rattle.trie.specs.Calls.{State, startOf, stepOf}
 use Rattle.history.specs.Lists.{Prefix}
 use Rattle.history.specs.ListLaws.{prefix-refl, prefix-append, prefix-trans}
 use Rattle.history.specs.Arrivals.{Op}
-use Rattle.history.specs.Order.{Placed, Task, Memory, succeeds, readsLeaf, swapsLeaf, swapsNode, opOf, advance}
+use Rattle.history.specs.Order.{Task, Memory, succeeds, readsLeaf, swapsLeaf, swapsNode, opOf, advance}
 use Rattle.history.specs.Histories.{Call, start, step, Moment, phaseOf, afterStart, afterStep, called, after}
 
 read-grows : (b : Bool) (x : ℕ) (o : Op) (m : Memory) → Prefix (m .order) (readsLeaf b x o m .order)

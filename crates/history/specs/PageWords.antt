@@ -1,7 +1,7 @@
 -- The order remembers lists where document 01 speaks of moments; these laws say of it what the page says.
 -- Assumes nothing.
 use mathlib.Core.Path.{_≡_, refl, sym, ap, _∙_, subst}
-use mathlib.Core.Logic.{_≢_, _⊎_, inl, inr}
+use mathlib.Core.Logic.{_⊎_, inl, inr}
 use mathlib.Core.Bool.{Bool, true, false}
 use mathlib.Core.List.{List, [], _∷_, _++_, List·Memᴰ·head, List·Memᴰ·tail, List·Memᴰ·not-nil, List·Memᴰ·cases-cons, List·Memᴰ·append-cases, Memᴰ·append-left, Memᴰ·append-right}
 use Prim.Native.Nat.{ℕ, _+_, _*_}
@@ -11,10 +11,8 @@ use Rattle.trie.specs.declared.Climb.{Climb}
 use Rattle.trie.specs.declared.Held.{Held}
 use Rattle.trie.specs.declared.Phase.{Phase}
 use Rattle.trie.specs.Choice.{pick}
-use Rattle.trie.specs.Calls.{State, startOf, stepOf}
+use Rattle.trie.specs.Calls.{State}
 use Rattle.trie.specs.CallLaws.{start-call-refused, step-call-refused}
-use Rattle.trie.specs.Values.{Ok, Course}
-use Rattle.decibel.specs.Told.{Told, refused, gives}
 use Rattle.history.specs.Histories.{Call, start, step, Moment, called, afterStart, afterStep, Refuses}
 use Rattle.history.specs.Lists.{_∈_}
 use Rattle.history.specs.Arrivals.{Entry, has, unseen, refreshBrings}

@@ -1,7 +1,7 @@
 -- The theorem: an accepted open makes a moment that belongs to a machine, every call leaves one, and such a moment has all
 -- that the third demand asks. Assumes nothing.
 use mathlib.Core.Path.{_≡_, refl, sym, ap, _∙_, subst}
-use mathlib.Core.Logic.{_≢_, _⊎_, inl, inr}
+use mathlib.Core.Logic.{_⊎_, inl, inr}
 use mathlib.Core.Bool.{true, false}
 use mathlib.Core.List.{List, [], _∷_, _++_, List·Memᴰ·head, List·Memᴰ·tail, List·Memᴰ·cases-cons, Memᴰ·append-right}
 use mathlib.Core.Option.{some}
@@ -30,7 +30,7 @@ use Rattle.history.specs.Nodes.{Side, Node, down, Below, below-self, bel
 use Rattle.history.specs.Numbers.{number, half, length-leaf, number-leaf}
 use Rattle.history.specs.Book.{blank}
 use Rattle.history.specs.Arrivals.{Entry, entry}
-use Rattle.history.specs.Order.{Placed, placed, Answered, Memory, nothingYet, updates, ops}
+use Rattle.history.specs.Order.{Placed, placed, Answered, Memory, nothingYet, ops}
 use Rattle.history.specs.Histories.{Call, start, step, Moment, phaseOf, afterStart, afterStep, called, after, history, Refuses, Accepts}
 use Rattle.history.specs.Theorem.{replay, Once, Stands, Before, Shows, Reached, Holds, EveryHistoryIsABook}
 use Rattle.history.specs.Machine.{at, cell, initial}

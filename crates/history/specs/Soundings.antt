@@ -3,16 +3,16 @@
 use mathlib.Core.Path.{_≡_, refl}
 use mathlib.Core.List.{List, [], _∷_, _++_}
 use mathlib.Core.Option.{Option, some, none}
-use Prim.Native.Nat.{ℕ, zero, suc, _+_, _*_}
+use Prim.Native.Nat.{ℕ}
 use native.Mathlib.Decide.{ℕ-discrete}
 use lib.Count.{ones, trailingZeros}
 use Rattle.decibel.specs.Energy.{energyOf}
 use Rattle.trie.specs.declared.Update.{Update}
 use Rattle.trie.specs.declared.Query.{Query}
 use Rattle.trie.specs.declared.Operation.{Operation}
-use Rattle.trie.specs.Record.{idle, above, climbFits}
+use Rattle.trie.specs.Record.{above, climbFits}
 use Rattle.trie.specs.Size.{allowed, heightOf}
-use Rattle.trie.specs.Tables.{usedOf, roomOf, versionAt, versionPut, roomy}
+use Rattle.trie.specs.Tables.{roomOf, versionAt, versionPut, roomy}
 use Rattle.trie.specs.Sound.{boundsOf, usedSound, soundAt, soundIn}
 use Rattle.trie.specs.Opening.{filled}
 use Rattle.trie.specs.Starting.{startRecordOf}
@@ -20,8 +20,8 @@ use Rattle.trie.specs.Leaf.{readOf, swapOf}
 use Rattle.trie.specs.Refreshing.{joinOf, refreshOf}
 use Rattle.trie.specs.Asking.{askOf, lookOf, findOf, rankOf, selectOf}
 use Rattle.trie.specs.Stepping.{planOf, carryOf, stepRecordOf}
-use Rattle.trie.specs.Values.{Value, yes′, no′, none, level, sums, ok}
-use Rattle.trie.specs.Calls.{State, state, openOf, startOf, stepOf, manned}
+use Rattle.trie.specs.Values.{Value, yes′, none, sums, ok}
+use Rattle.trie.specs.Calls.{openOf, startOf, stepOf, manned}
 use Rattle.trie.specs.Runs.{repeat, lent, insert}
 use Rattle.history.specs.Order.{Placed, placed, Answered}
 use Rattle.history.specs.Histories.{Call, start, step, Moment, history}
