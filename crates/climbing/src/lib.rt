@@ -35,15 +35,14 @@ fn rise(c: Climb, made: u64) -> Next
 {
     let update = c.update;
     let node = c.node;
-    let x = node.0;
-    if x == 1 {
+    if node.0 == 1 {
         if c.yes {
             Next::Done(Answer::Yes)
         } else {
             Next::Done(Answer::No)
         }
     } else {
-        climb_from(x, update, c.yes, made)
+        climb_from(node, update, c.yes, made)
     }
 }
 

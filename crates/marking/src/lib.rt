@@ -66,13 +66,13 @@ fn new_leaf(n: u64, u: Update) -> Version
 }
 
 // Whether yes or no: the climb goes on at the parent of x.
-pub fn climb_from(x: u64, u: Update, yes: bool, made: u64) -> Next
-    ensures { λ r. ⌜ r ≡ climbsFrom x u yes made ⌝ }
+pub fn climb_from(x: NodeNumber, u: Update, yes: bool, made: u64) -> Next
+    ensures { λ r. ⌜ r ≡ climbsFrom (x .0) u yes made ⌝ }
 {
     let climb = Climb {
         update: u,
         yes: yes,
-        node: NodeNumber(x / 2),
+        node: NodeNumber(x.0 / 2),
         second: false,
         made: made,
     };
@@ -94,8 +94,8 @@ pub fn plan_swap(b: Bounds, x: NodeNumber, r: Version, next: Next) -> Plan
 }
 
 // What follows the read of the version of leaf x.
-fn go_by(x: u64, u: Update, v: VersionNumber, found: bool) -> Plan
-    ensures { λ p. ⌜ p ≡ Plan.Keep (pick found (climbsFrom x u false 0) (goesOn (Phase.Swap u v))) ⌝ }
+fn go_by(x: NodeNumber, u: Update, v: VersionNumber, found: bool) -> Plan
+    ensures { λ p. ⌜ p ≡ Plan.Keep (pick found (climbsFrom (x .0) u false 0) (goesOn (Phase.Swap u v))) ⌝ }
 {
     if found {
         Plan::Keep(climb_from(x, u, false, 0))
@@ -122,7 +122,7 @@ pub fn read(b: Bounds, u: Update, nodes: &[u64], versions: &[u64]) -> Plan
         return Plan::Damaged;
     }
     let found = is_as_wanted(u, load(versions, v));
-    go_by(leaf, u, v, found)
+    go_by(NodeNumber(leaf), u, v, found)
 }
 
 pub fn swap(b: Bounds, u: Update, v: VersionNumber, nodes: &[u64], versions: &[u64]) -> Plan
@@ -145,9 +145,9 @@ pub fn swap(b: Bounds, u: Update, v: VersionNumber, nodes: &[u64], versions: &[u
             b,
             NodeNumber(leaf),
             new_leaf(n, u),
-            climb_from(leaf, u, true, 1),
+            climb_from(NodeNumber(leaf), u, true, 1),
         )
     } else {
-        Plan::Keep(climb_from(leaf, u, false, 0))
+        Plan::Keep(climb_from(NodeNumber(leaf), u, false, 0))
     }
 }
