@@ -3,16 +3,16 @@
 use mathlib.Core.Path.{_≡_, refl, sym, ap, _∙_}
 use mathlib.Core.List.{List, [], _∷_}
 use mathlib.Core.Bool.{Bool, true, false, _&&_}
-use Prim.Native.Nat.{ℕ, suc, _+_, _-_, _*_, _^_, _≤_, _<_}
+use Prim.Native.Nat.{ℕ, zero, suc, _+_, _-_, _*_, _^_, _≤_, _<_}
 use native.Mathlib.Numerals.{add-one}
 use native.Mathlib.Nat.{pow-suc, pow-le-pow-right}
 use native.Mathlib.Omega.{arith}
 use lib.ListN.{length, take, drop, getD, length-drop, drop-of-length-le}
 use lib.Seq.{drop-cons, take-all}
 use lib.Dec.{ltb, leb, eqb}
-use borrow.Author.Tests.{lt-leb, lt-ltb, le-ltb, eq-eqb, ne-eqb}
+use borrow.Author.Tests.{lt-leb, lt-ltb, le-ltb}
 use Rattle.trie.specs.Choice.{pick}
-use Rattle.grammar.specs.Grammar.{starts, ended, digits, numberOf}
+use Rattle.grammar.specs.Grammar.{starts, ended, digits, numberOf, onNumber, firstOf}
 use Rattle.grammar.specs.declared.Number.{Number}
 
 -- the first of what is left
@@ -139,3 +139,22 @@ digits-within (b ∷ s) k v a n h =
 pub number-within : (s : List ℕ) (a n : ℕ) → numberOf s ≡ Number.Is a n → n ≤ length s
 unfolding numberOf
 number-within s a n h = omega (arith, digits-within s 0 0 a n h)
+
+-- a space stands within the bytes
+space-within : (s : List ℕ) (n : ℕ) → eqb (getD s n 0) 32 ≡ true → n < length s
+space-within [] n h = absurd (false-not-true h)
+space-within (x ∷ s) zero h = omega arith
+space-within (x ∷ s) (suc n) h = omega (arith, space-within s n h)
+
+by-space : (s : List ℕ) (x : Bool) (v k a n : ℕ) → eqb (getD s k 0) 32 ≡ x → pick x (Number.Is v (k + 1)) Number.Not ≡ Number.Is a n → n ≤ length s
+by-space s true v k a n e h = let q : n ≡ k + 1 = cc in omega (arith, space-within s k e)
+by-space s false v k a n e h = absurd (not-is a n h)
+
+-- what follows a number and a space begins within the bytes
+pub first-within : (s : List ℕ) (a n : ℕ) → firstOf s ≡ Number.Is a n → n ≤ length s
+unfolding firstOf
+first-within s a n h = by (numberOf s) h
+  where
+    by : (m : Number) → onNumber m (λ v k. pick (eqb (getD s k 0) 32) (Number.Is v (k + 1)) Number.Not) Number.Not ≡ Number.Is a n → n ≤ length s
+    by (Number.Is v k) h = by-space s (eqb (getD s k 0) 32) v k a n refl h
+    by Number.Not h = absurd (not-is a n h)

@@ -2,7 +2,7 @@
 -- Assumes nothing.
 use mathlib.Core.Path.{_≡_, refl, sym, ap, _∙_}
 use mathlib.Core.Bool.{Bool, true, false}
-use mathlib.Core.List.{List, [], _∷_, _++_, append-assoc}
+use mathlib.Core.List.{List, _∷_, _++_, append-assoc}
 use Prim.Native.Nat.{ℕ, zero, suc, _+_, _-_, _^_, _≤_, _<_}
 use native.Mathlib.Nat.{pow-le-pow-right, le-trans, add-assoc}
 use native.Mathlib.Omega.{arith}
@@ -72,12 +72,11 @@ pub put-as : (s t d d1 : List ℕ) (at r : ℕ) → s ≡ t → Put s at d d1 r 
 put-as s t d d1 at r e p = rw e at p
 
 pub refused-text : (number : ℕ) → (refusedWord ++ decimal number) ++ newline ≡ refusedText number
-unfolding refusedText
-refused-text number = append-assoc refusedWord (decimal number) newline
+refused-text number = refl
 
 pub number-text : (v : ℕ) → (doneWord ++ decimal v) ++ newline ≡ doneText (level v)
 unfolding doneText valueText
-number-text v = append-assoc doneWord (decimal v) newline
+number-text v = refl
 
 pub sums-text : (count energy : ℕ) → ((doneWord ++ decimal count) ++ (32 ∷ decimal energy)) ++ newline ≡ doneText (sums count energy)
 unfolding doneText valueText

@@ -4,10 +4,9 @@
 --   step w          start w select j      start w rank k      start w total
 use mathlib.Core.Bool.{Bool, true, false}
 use mathlib.Core.List.{List, [], _∷_}
-use Prim.Native.Nat.{ℕ, zero, suc, _+_, _-_, _*_}
+use Prim.Native.Nat.{ℕ, _+_, _-_, _*_}
 use lib.Dec.{ltb, leb, eqb}
-use lib.ListN.{length, drop}
-use Rattle.decibel.specs.declared.Level.{Level}
+use lib.ListN.{length, drop, getD}
 use Rattle.trie.specs.Choice.{pick}
 use Rattle.trie.specs.declared.Operation.{Operation}
 use Rattle.trie.specs.declared.Query.{Query}
@@ -45,14 +44,13 @@ abbrev pub onNumber : {A : Type 0} → Number → (ℕ → ℕ → A) → A → 
 onNumber (Number.Is v n) next other = next v n
 onNumber Number.Not next other = other
 
--- what follows one space, where one stands at the start
-abbrev pub onSpace : {A : Type 0} → List ℕ → (List ℕ → A) → A → A
-onSpace [] next other = other
-onSpace (b ∷ s) next other = pick (eqb b 32) (next s) other
-
 -- one number and no more
 unfoldable pub oneOf : List ℕ → One
 oneOf s = onNumber (numberOf s) (λ a n. pick (eqb n (length s)) (One.Is a) One.Not) One.Not
+
+-- a number with the one space that has to follow it, and where the rest begins
+unfoldable pub firstOf : List ℕ → Number
+firstOf s = onNumber (numberOf s) (λ a n. pick (eqb (getD s n 0) 32) (Number.Is a (n + 1)) Number.Not) Number.Not
 
 abbrev pub andOne : ℕ → One → Two
 andOne a (One.Is b) = Two.Is a b
@@ -60,14 +58,14 @@ andOne a One.Not = Two.Not
 
 -- two numbers, parted by one space, and no more
 unfoldable pub twoOf : List ℕ → Two
-twoOf s = onNumber (numberOf s) (λ a n. onSpace (drop n s) (λ r. andOne a (oneOf r)) Two.Not) Two.Not
+twoOf s = onNumber (firstOf s) (λ a n. andOne a (oneOf (drop n s))) Two.Not
 
 abbrev pub andTwo : ℕ → Two → Three
 andTwo a (Two.Is b c) = Three.Is a b c
 andTwo a Two.Not = Three.Not
 
 unfoldable pub threeOf : List ℕ → Three
-threeOf s = onNumber (numberOf s) (λ a n. onSpace (drop n s) (λ r. andTwo a (twoOf r)) Three.Not) Three.Not
+threeOf s = onNumber (firstOf s) (λ a n. andTwo a (twoOf (drop n s))) Three.Not
 
 -- ---- operations
 

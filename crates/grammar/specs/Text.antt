@@ -45,22 +45,32 @@ valueText (level l) = decimal l
 valueText (cell k) = decimal k
 valueText (sums count energy) = decimal count ++ (32 ∷ decimal energy)
 
-unfoldable pub refusedText : ℕ → List ℕ
-refusedText number = refusedWord ++ (decimal number ++ newline)
+-- what open and start tell, before the newline
+abbrev pub acceptedWords : Told Ok → List ℕ
+acceptedWords (refused number) = refusedWord ++ decimal number
+acceptedWords (gives ok) = okWord
 
-unfoldable pub doneText : Value → List ℕ
-doneText v = doneWord ++ (valueText v ++ newline)
+-- what a step tells, before the newline
+abbrev pub courseWords : Told Course → List ℕ
+courseWords (refused number) = refusedWord ++ decimal number
+courseWords (gives on) = onWord
+courseWords (gives (done v)) = doneWord ++ valueText v
 
--- what open and start tell
+-- ---- the same as lines
+
+abbrev pub refusedText : ℕ → List ℕ
+refusedText number = acceptedWords (refused number) ++ newline
+
 unfoldable pub acceptedText : Told Ok → List ℕ
-acceptedText (refused number) = refusedText number
-acceptedText (gives ok) = okWord ++ newline
+acceptedText told = acceptedWords told ++ newline
 
--- what a step tells
 unfoldable pub courseText : Told Course → List ℕ
-courseText (refused number) = refusedText number
-courseText (gives on) = onWord ++ newline
-courseText (gives (done v)) = doneText v
+courseText told = courseWords told ++ newline
+
+-- one of the lines of a step, so it unfolds with them
+unfoldable abbrev pub doneText : Value → List ℕ
+unfolding courseText
+doneText v = courseText (gives (done v))
 
 -- text stands in the buffer at `at`, which ends at r, and the rest is as it was
 pub record Put (text : List ℕ) (at : ℕ) (before after : List ℕ) (r : ℕ) : Type 0 where

@@ -1,7 +1,7 @@
 // One line of a listing, from bytes to a command. The grammar is that of specs/Grammar.antt, which the contracts cite.
 // A line that is none of the commands is a value of its own, so that no reader can forget it.
 ghost use mathlib.Core.Path.{_≡_};
-ghost use Rattle.grammar.specs.Grammar.{starts, ended, numberOf, oneOf, twoOf, threeOf, insertOf, deleteOf, findOf, selectOf, rankOf, totalOf, updateOf, queryOf, either, operationOf, startsOf, startOf, stepOf, openOf, commandOf, lineOf};
+ghost use Rattle.grammar.specs.Grammar.{starts, ended, numberOf, oneOf, firstOf, twoOf, threeOf, insertOf, deleteOf, findOf, selectOf, rankOf, totalOf, updateOf, queryOf, operationOf, startsOf, startOf, stepOf, openOf, commandOf, lineOf};
 use decibel::Level;
 use trie::Operation;
 use trie::Query;
@@ -19,7 +19,7 @@ pub enum Line {
     Not,
 }
 
-// A number at the start of the bytes, and how many digits it has.
+// A number at the start of the bytes, and where what follows it begins.
 pub enum Number {
     Is(u64, usize),
     Not,
@@ -116,22 +116,34 @@ fn read_one(s: &[u8]) -> One
     }
 }
 
-fn read_two(s: &[u8]) -> Two
-    ensures { λ r. ⌜ r ≡ twoOf (now (s .entry)) ⌝ }
+// A number with the one space that has to follow it.
+fn read_first(s: &[u8]) -> Number
+    ensures { λ r. ⌜ r ≡ firstOf (now (s .entry)) ⌝ }
 {
     match read_number(s) {
         Number::Is(a, n) => {
             if n < s.len() {
                 if s[n] == b' ' {
-                    match read_one(&s[n + 1..]) {
-                        One::Is(b) => Two::Is(a, b),
-                        One::Not => Two::Not,
-                    }
+                    Number::Is(a, n + 1)
                 } else {
-                    Two::Not
+                    Number::Not
                 }
             } else {
-                Two::Not
+                Number::Not
+            }
+        }
+        Number::Not => Number::Not,
+    }
+}
+
+fn read_two(s: &[u8]) -> Two
+    ensures { λ r. ⌜ r ≡ twoOf (now (s .entry)) ⌝ }
+{
+    match read_first(s) {
+        Number::Is(a, n) => {
+            match read_one(&s[n..]) {
+                One::Is(b) => Two::Is(a, b),
+                One::Not => Two::Not,
             }
         }
         Number::Not => Two::Not,
@@ -141,19 +153,11 @@ fn read_two(s: &[u8]) -> Two
 fn read_three(s: &[u8]) -> Three
     ensures { λ r. ⌜ r ≡ threeOf (now (s .entry)) ⌝ }
 {
-    match read_number(s) {
+    match read_first(s) {
         Number::Is(a, n) => {
-            if n < s.len() {
-                if s[n] == b' ' {
-                    match read_two(&s[n + 1..]) {
-                        Two::Is(b, c) => Three::Is(a, b, c),
-                        Two::Not => Three::Not,
-                    }
-                } else {
-                    Three::Not
-                }
-            } else {
-                Three::Not
+            match read_two(&s[n..]) {
+                Two::Is(b, c) => Three::Is(a, b, c),
+                Two::Not => Three::Not,
             }
         }
         Number::Not => Three::Not,

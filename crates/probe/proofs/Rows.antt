@@ -1,6 +1,6 @@
 -- The records of a board, one more at a time: what the loop that seats them keeps true.
 -- Assumes nothing.
-use mathlib.Core.Path.{_≡_, refl, sym, ap, _∙_}
+use mathlib.Core.Path.{_≡_, sym, ap, _∙_}
 use mathlib.Core.List.{List, [], _∷_, _++_, append-nil}
 use Prim.Native.Nat.{ℕ, zero, suc, _+_, _*_, _-_, _≤_, _<_}
 use native.Mathlib.Numerals.{add-one}
@@ -10,7 +10,7 @@ use lib.Seq.{paste, paste-suc, take-paste, take-length, length-take-le, take-suc
 use Rattle.trie.specs.declared.Worker.{Worker}
 use Rattle.probe.specs.declared.records.Record.{Record}
 use Rattle.probe.specs.Records.{recordOf}
-use Rattle.probe.specs.Cases.{Rowed, none, rows, joined, rowFrom}
+use Rattle.probe.specs.Cases.{none, rows, joined, rowFrom}
 
 -- twelve numbers, copied over twelve others
 pub fields-are : (d part : List ℕ) → length d ≡ 12 → length part ≡ 12 → paste d 0 part (length part) ≡ part

@@ -1,8 +1,8 @@
 -- The text of a list, one element more at a time: what a loop that puts it keeps true.
 -- Assumes nothing.
-use mathlib.Core.Path.{_≡_, refl, sym, ap, _∙_}
+use mathlib.Core.Path.{_≡_, sym, ap, _∙_}
 use mathlib.Core.List.{List, [], _∷_, _++_, append-assoc, append-nil}
-use Prim.Native.Nat.{ℕ, suc, _+_, _≤_, _<_}
+use Prim.Native.Nat.{ℕ, _+_, _≤_, _<_}
 use native.Mathlib.Numerals.{add-one}
 use native.Mathlib.Omega.{arith}
 use lib.ListN.{length, getD, take, drop}
@@ -10,7 +10,7 @@ use lib.Seq.{paste-zero, take-suc, take-at, length-take-le}
 use Rattle.trie.specs.declared.Worker.{Worker}
 use Rattle.trie.specs.Record.{idle}
 use Rattle.decibel.specs.Told.{Told}
-use Rattle.trie.specs.Calls.{State, state, After, after}
+use Rattle.trie.specs.Calls.{state, After, after}
 use Rattle.rows.specs.Rows.{seated}
 use Rattle.grammar.specs.Text.{Put, newline}
 use Rattle.grammar.proofs.Texts.{put-both, put-as}

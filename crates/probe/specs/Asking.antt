@@ -1,6 +1,6 @@
 -- The call of a case and the operation of a start, made of their numbers: the tables of docs/CASES.md.
 -- Assumes nothing.
-use mathlib.Core.Bool.{Bool, true, false, _&&_}
+use mathlib.Core.Bool.{_&&_}
 use Prim.Native.Nat.{ℕ}
 use lib.Dec.{eqb, leb}
 use Rattle.trie.specs.declared.Update.{Update}

@@ -10,6 +10,7 @@ use Rattle.trie.specs.declared.Climb.{Climb}
 use Rattle.trie.specs.declared.Standing.{Standing}
 use Rattle.trie.specs.declared.Phase.{Phase}
 use Rattle.trie.specs.declared.Worker.{Worker}
+use Rattle.trie.specs.Record.{cellOf}
 
 -- 1 for yes, 0 for no
 abbrev pub bitOf : Bool → ℕ
@@ -21,10 +22,6 @@ bitOf false = 0
 abbrev pub kindOf : Update → ℕ
 kindOf (Update.Insert k l) = 1
 kindOf (Update.Delete k) = 2
-
-abbrev pub cellOf : Update → ℕ
-cellOf (Update.Insert k l) = k
-cellOf (Update.Delete k) = k
 
 -- 0 for a delete
 abbrev pub levelOf : Update → ℕ

@@ -1,6 +1,6 @@
 -- A line, byte by byte: its numbers are decimal, of 1 to 20 digits and below 2 ^ 64, and parted by one space.
 -- Assumes nothing.
-use mathlib.Core.Bool.{Bool, true, false}
+use mathlib.Core.Bool.{true, false}
 use mathlib.Core.List.{List}
 use Prim.Native.Nat.{ℕ, _+_, _*_, _-_}
 use lib.Dec.{eqb, leb, ltb}

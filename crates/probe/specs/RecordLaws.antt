@@ -2,8 +2,6 @@
 -- Assumes nothing.
 use mathlib.Core.Path.{_≡_, refl, ap, _∙_}
 use mathlib.Core.Bool.{Bool, true, false, _||_}
-use mathlib.Core.List.{List}
-use Prim.Native.Nat.{ℕ}
 use lib.Dec.{eqb, ltb}
 use Rattle.trie.specs.declared.Update.{Update}
 use Rattle.trie.specs.declared.Query.{Query}
@@ -12,11 +10,12 @@ use Rattle.trie.specs.declared.Climb.{Climb}
 use Rattle.trie.specs.declared.Phase.{Phase}
 use Rattle.trie.specs.declared.Worker.{Worker}
 use Rattle.trie.specs.Choice.{pick}
+use Rattle.trie.specs.Record.{cellOf}
 use Rattle.probe.specs.declared.asking.Change.{Change}
 use Rattle.probe.specs.declared.asking.Question.{Question}
 use Rattle.probe.specs.declared.records.Record.{Record}
 use Rattle.probe.specs.declared.records.Refresh.{Refresh}
-use Rattle.probe.specs.Fields.{bitOf, kindOf, cellOf, levelOf, askedOf, numberOf, readOf, nodeReadOf, leftReadOf, rightReadOf, updateFields, climbFields, phaseFields, fieldsOf}
+use Rattle.probe.specs.Fields.{bitOf, kindOf, levelOf, askedOf, numberOf, readOf, nodeReadOf, leftReadOf, rightReadOf, updateFields, climbFields, phaseFields, fieldsOf}
 use Rattle.probe.specs.Asking.{changeOf, questionOf}
 use Rattle.probe.specs.Records.{allZero, inPhase, refreshOf, climbing, climbOf, updateIn, askIn, queryIn, recordOf}
 

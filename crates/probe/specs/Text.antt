@@ -3,23 +3,11 @@
 use mathlib.Core.List.{List, [], _∷_, _++_}
 use Prim.Native.Nat.{ℕ}
 use lib.ListN.{length}
-use Rattle.decibel.specs.Told.{Told, refused, gives}
 use Rattle.trie.specs.declared.Worker.{Worker}
-use Rattle.trie.specs.Values.{Ok, ok, Course, on, done}
+use Rattle.trie.specs.Values.{Ok, Course}
 use Rattle.trie.specs.Calls.{State, After}
-use Rattle.grammar.specs.Text.{decimal, newline, okWord, onWord, doneWord, refusedWord, valueText}
+use Rattle.grammar.specs.Text.{decimal, newline, acceptedWords, courseWords}
 use Rattle.probe.specs.Fields.{fieldsOf}
-
--- what open and start tell
-unfoldable pub acceptedWords : Told Ok → List ℕ
-acceptedWords (refused number) = refusedWord ++ decimal number
-acceptedWords (gives ok) = okWord
-
--- what a step tells
-unfoldable pub courseWords : Told Course → List ℕ
-courseWords (refused number) = refusedWord ++ decimal number
-courseWords (gives on) = onWord
-courseWords (gives (done v)) = doneWord ++ valueText v
 
 -- a number behind a space
 abbrev pub spaced : ℕ → List ℕ

@@ -1,6 +1,5 @@
 // A call on the tables and the row of a case, and the answer: what the call tells, and all that was lent to it as it stands afterwards.
 // Each table and the board stand in the answer with their lengths first.
-ghost use mathlib.Core.Path.{_≡_};
 ghost use Prim.Native.Nat.{_+_, _*_, _≤_};
 ghost use lib.ListN.{length, take};
 ghost use Rattle.trie.specs.Calls.{state, openOf, startOf, stepOf};

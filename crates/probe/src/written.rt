@@ -1,7 +1,8 @@
 // The twelve numbers of a record, as they stand in a case and in an answer.
 // Each place that has no meaning in the record's phase is 0.
 ghost use mathlib.Core.Path.{_≡_};
-ghost use Rattle.probe.specs.Fields.{bitOf, kindOf, cellOf, levelOf, askedOf, numberOf, readOf, nodeReadOf, leftReadOf, rightReadOf, updateFields, climbFields, queryFields, phaseFields, fieldsOf};
+ghost use Rattle.trie.specs.Record.{cellOf};
+ghost use Rattle.probe.specs.Fields.{bitOf, kindOf, levelOf, askedOf, numberOf, readOf, nodeReadOf, leftReadOf, rightReadOf, updateFields, climbFields, queryFields, phaseFields, fieldsOf};
 use trie::Climb;
 use trie::Held;
 use trie::Phase;

@@ -6,7 +6,8 @@ use lib.ListN.{length, take}
 use lib.Seq.{length-take-le}
 use Rattle.trie.specs.Calls.{state, startOf}
 use Rattle.grammar.proofs.Texts.{put-both, put-as}
-use Rattle.probe.specs.Text.{acceptedWords, acceptedText}
+use Rattle.grammar.specs.Text.{acceptedWords}
+use Rattle.probe.specs.Text.{acceptedText}
 use Rattle.probe.proofs.Kept.{start-kept}
 use Rattle.probe.proofs.Texts.{seated-text}
 use borrow.Author.Needs.{needs}

@@ -6,7 +6,8 @@ use lib.ListN.{length, take}
 use lib.Seq.{length-take-le}
 use Rattle.trie.specs.Calls.{state, stepOf}
 use Rattle.grammar.proofs.Texts.{put-both, put-as}
-use Rattle.probe.specs.Text.{courseWords, courseText}
+use Rattle.grammar.specs.Text.{courseWords}
+use Rattle.probe.specs.Text.{courseText}
 use Rattle.probe.proofs.Kept.{step-kept}
 use Rattle.probe.proofs.Texts.{seated-text}
 use borrow.Author.Needs.{needs}

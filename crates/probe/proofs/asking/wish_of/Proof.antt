@@ -1,8 +1,7 @@
 -- `probe::asking::wish_of` meets its contract.
 -- Assumes nothing.
 use borrow.Author.Tests.{eq-eqb, ne-eqb, le-leb, lt-leb}
-use Rattle.probe.specs.Asking.{wishOf, changeWish, questionWish}
-use mathlib.Core.Path.{ap, _∙_}
+use Rattle.probe.specs.Asking.{wishOf}
 use borrow.Author.Needs.{needs}
 use Rattle.probe.proofs.asking.wish_of.Statement.{statement}
 use Rattle.probe.proofs.asking.wish_of.Tie as tie

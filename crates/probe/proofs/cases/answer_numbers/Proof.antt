@@ -1,7 +1,6 @@
 -- `probe::cases::answer_numbers` meets its contract.
 -- Assumes nothing.
-use native.Mathlib.Omega.{arith}
-use mathlib.Core.Path.{sym, ap, _∙_}
+use mathlib.Core.Path.{ap}
 use Rattle.grammar.proofs.Texts.{put-as}
 use Rattle.probe.specs.Cases.{formedText}
 use Rattle.probe.proofs.Sizes.{sized-one}

@@ -1,8 +1,6 @@
 -- `probe::chunks::serve_bytes` meets its contract. What is put never leaves less room than the longest answer takes.
 -- Assumes nothing.
-use mathlib.Core.Path.{_≡_}
 use Prim.Native.Nat.{_≤_, _-_}
-use native.Mathlib.Omega.{arith}
 use lib.ListN.{length}
 use borrow.Author.Needs.{needs}
 use Rattle.probe.proofs.chunks.serve_bytes.Statement.{statement}

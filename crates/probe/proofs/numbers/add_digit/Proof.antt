@@ -1,6 +1,6 @@
 -- `probe::numbers::add_digit` meets its contract.
 -- Assumes nothing.
-use borrow.Author.Tests.{lt-ltb, le-ltb, le-leb, lt-leb, eq-eqb, ne-eqb, not-true, not-false}
+use borrow.Author.Tests.{lt-ltb, le-ltb, le-leb, lt-leb}
 use Rattle.probe.specs.Reading.{digitOf}
 use borrow.Author.Needs.{needs}
 use Rattle.probe.proofs.numbers.add_digit.Statement.{statement}

@@ -1,6 +1,6 @@
 -- `probe::numbers::end_number` meets its contract.
 -- Assumes nothing.
-use borrow.Author.Tests.{lt-ltb, le-ltb, le-leb, lt-leb, eq-eqb, ne-eqb, not-true, not-false}
+use borrow.Author.Tests.{le-leb, lt-leb, eq-eqb, ne-eqb, not-true, not-false}
 use Rattle.probe.specs.Reading.{endOf}
 use borrow.Author.Needs.{needs}
 use Rattle.probe.proofs.numbers.end_number.Statement.{statement}

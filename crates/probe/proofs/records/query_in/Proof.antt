@@ -1,6 +1,6 @@
 -- `probe::records::query_in` meets its contract.
 -- Assumes nothing.
-use mathlib.Core.Path.{sym, ap, _∙_}
+use mathlib.Core.Path.{ap, _∙_}
 use Rattle.probe.proofs.Places.{bare-test, find-in, rank-in, select-in, no-query}
 use Rattle.probe.specs.Records.{inPhase}
 use lib.ListN.{getD}

@@ -2,7 +2,6 @@
 -- Assumes nothing.
 use borrow.Author.Tests.{eq-eqb, ne-eqb}
 use Rattle.probe.specs.Records.{refreshOf}
-use borrow.Author.Needs.{needs}
 use Rattle.probe.proofs.records.refresh_of.Statement.{statement}
 use Rattle.probe.proofs.records.refresh_of.Tie as tie
 

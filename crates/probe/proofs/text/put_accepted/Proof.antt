@@ -1,7 +1,6 @@
 -- `probe::text::put_accepted` meets its contract.
 -- Assumes nothing.
 use native.Mathlib.Omega.{arith}
-use Rattle.probe.specs.Text.{acceptedWords}
 use borrow.Author.Needs.{needs}
 use Rattle.probe.proofs.text.put_accepted.Statement.{statement}
 use Rattle.probe.proofs.text.put_accepted.Tie as tie
@@ -25,14 +24,12 @@ same-length : tie.Need-same-length
 same-length c = search needs
 
 returns : tie.Need-returns
-unfolding acceptedWords
 returns c = rw (c .before .before .before .before .before .accepted .given .1) (c .before .before .put-refused .ensures)
 
 same-length-2 : tie.Need-same-length-2
 same-length-2 c = search needs
 
 returns-2 : tie.Need-returns-2
-unfolding acceptedWords
 returns-2 c = (rw (c .before .before .before .before .before .enum-told .given .1) (c .before .before .put .ensures), omega (arith, c .before .before .put .ensures .ends))
 
 pub put-accepted-spec : {M : Type 1} → statement M

@@ -1,7 +1,6 @@
 -- `probe::text::put_progress` meets its contract.
 -- Assumes nothing.
 use native.Mathlib.Omega.{arith}
-use Rattle.probe.specs.Text.{courseWords}
 use borrow.Author.Needs.{needs}
 use Rattle.probe.proofs.text.put_progress.Statement.{statement}
 use Rattle.probe.proofs.text.put_progress.Tie as tie
@@ -31,21 +30,18 @@ same-length : tie.Need-same-length
 same-length c = search needs
 
 returns : tie.Need-returns
-unfolding courseWords
 returns c = rw (c .before .before .before .before .before .progress .given .1) (c .before .before .put-refused .ensures)
 
 same-length-2 : tie.Need-same-length-2
 same-length-2 c = search needs
 
 returns-2 : tie.Need-returns-2
-unfolding courseWords
 returns-2 c = (rw (c .before .before .before .before .before .enum-told .given .1) (c .before .before .put .ensures), omega (arith, c .before .before .put .ensures .ends))
 
 same-length-3 : tie.Need-same-length-3
 same-length-3 c = search needs
 
 returns-3 : tie.Need-returns-3
-unfolding courseWords
 returns-3 c = rw (c .before .before .before .before .before .progress2 .given .1) (c .before .before .put-answer .ensures)
 
 pub put-progress-spec : {M : Type 1} → statement M
