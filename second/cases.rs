@@ -1,5 +1,5 @@
-// One idea: damage is met near the truth, so a case is the state of a history really played on a small model, in which
-// (mostly) one thing is moved to a bound or past it; the model judges nothing, for in its histories nothing is damaged.
+// One idea: damage is met near the truth, so a case is the state of a history really played here on small tables, in which
+// (mostly) one thing is moved to a bound or past it; the play judges nothing, for in its histories nothing is damaged.
 
 use std::env;
 use std::io::{self, BufWriter, Write};
@@ -109,7 +109,7 @@ const STEP: u64 = 2;
 const MOST_VERSIONS: u64 = 80;
 const MOST_ENERGY: u64 = 1_000_000_000;
 
-// ---- The model: histories of open, start and step, unjudged ----
+// ---- The play: histories of open, start and step, unjudged ----
 
 struct History {
     cells: u64,
@@ -368,21 +368,29 @@ impl History {
                 self.finish(focus);
             }
             self.start(focus, self.operation_for(wanted, chance));
-            let mut passed_over = if attempt == 0 { wanted.passed_over } else { 0 };
-            while self.board[focus] != IDLE {
-                if wanted.is_met(&self.board[focus]) {
-                    if passed_over == 0 {
-                        return;
-                    }
-                    passed_over -= 1;
-                }
-                if chance.percent(40) {
-                    self.crowd(1 + chance.below(6), focus, chance);
-                }
-                self.step(focus);
+            let passed_over = if attempt == 0 { wanted.passed_over } else { 0 };
+            if self.step_until(focus, wanted, passed_over, chance) {
+                return;
             }
         }
         self.start(focus, self.operation_for(wanted, chance));
+    }
+
+    /// Whether the focus came to what is wanted once more than is to be passed over, before its operation ended.
+    fn step_until(&mut self, focus: usize, wanted: &Wanted, mut passed_over: u64, chance: &mut Chance) -> bool {
+        while self.board[focus] != IDLE {
+            if wanted.is_met(&self.board[focus]) {
+                if passed_over == 0 {
+                    return true;
+                }
+                passed_over -= 1;
+            }
+            if chance.percent(40) {
+                self.crowd(1 + chance.below(6), focus, chance);
+            }
+            self.step(focus);
+        }
+        false
     }
 
     fn play(chance: &mut Chance) -> (History, usize) {

@@ -13,25 +13,30 @@ fn digits(mut n: u64) -> Digits {
     out
 }
 
+/// Adds a multiple of b column by column; the carries come when all are added.
+fn add_multiple(sums: &mut [u32], digit: u8, b: &Digits) {
+    for (sum, y) in sums.iter_mut().zip(b) {
+        *sum += u32::from(digit) * u32::from(*y);
+    }
+}
+
+fn carried(sums: &[u32]) -> Digits {
+    let mut carry = 0;
+    let out = sums.iter().map(|s| {
+        let all = s + carry;
+        carry = all / 10;
+        (all % 10) as u8
+    });
+    out.collect()
+}
+
 fn times(a: &Digits, b: &Digits) -> Digits {
     let mut sums = vec![0u32; a.len() + b.len() + 1];
     for (i, x) in a.iter().enumerate() {
-        for (j, y) in b.iter().enumerate() {
-            sums[i + j] += u32::from(*x) * u32::from(*y);
-        }
+        add_multiple(&mut sums[i..], *x, b);
     }
-    let mut carry = 0;
-    let mut out: Digits = sums
-        .iter()
-        .map(|s| {
-            let all = s + carry;
-            carry = all / 10;
-            (all % 10) as u8
-        })
-        .collect();
-    while out.last() == Some(&0) {
-        out.pop();
-    }
+    let mut out = carried(&sums);
+    out.truncate(out.iter().rposition(|d| *d != 0).map_or(0, |last| last + 1));
     out
 }
 

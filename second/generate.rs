@@ -593,19 +593,23 @@ fn dribble() -> io::Result<()> {
         if length == 0 {
             return Ok(());
         }
-        let mut rest = &chunk[..length];
-        while !rest.is_empty() {
-            let (piece, later) = rest.split_at(rest.len().min(chance.between(1, 7) as usize));
-            output.write_all(piece)?;
-            output.flush()?;
-            rest = later;
-            since_newline = if piece.contains(&b'\n') { 0 } else { since_newline + piece.len() };
-            // Without a pause the pipe would join the pieces again; the rest of a very long line is not worth one.
-            if since_newline < 2 * LONGEST_LINE {
-                thread::sleep(Duration::from_micros(10));
-            }
+        dribble_chunk(&chunk[..length], &mut since_newline, &mut chance, &mut output)?;
+    }
+}
+
+fn dribble_chunk(mut rest: &[u8], since_newline: &mut usize, chance: &mut Chance, output: &mut impl Write) -> io::Result<()> {
+    while !rest.is_empty() {
+        let (piece, later) = rest.split_at(rest.len().min(chance.between(1, 7) as usize));
+        output.write_all(piece)?;
+        output.flush()?;
+        rest = later;
+        *since_newline = if piece.contains(&b'\n') { 0 } else { *since_newline + piece.len() };
+        // Without a pause the pipe would join the pieces again; the rest of a very long line is not worth one.
+        if *since_newline < 2 * LONGEST_LINE {
+            thread::sleep(Duration::from_micros(10));
         }
     }
+    Ok(())
 }
 
 fn main() -> ExitCode {

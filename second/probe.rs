@@ -138,14 +138,18 @@ fn large_power(base: u64, exponent: u64) -> [u64; PIECES] {
     let mut pieces = [0; PIECES];
     pieces[PIECES - 1] = 1;
     for _ in 0..exponent {
-        let mut carry = 0;
-        for piece in pieces.iter_mut().rev() {
-            let product = *piece * base + carry;
-            *piece = product % PIECE;
-            carry = product / PIECE;
-        }
+        multiply(&mut pieces, base);
     }
     pieces
+}
+
+fn multiply(pieces: &mut [u64; PIECES], base: u64) {
+    let mut carry = 0;
+    for piece in pieces.iter_mut().rev() {
+        let product = *piece * base + carry;
+        *piece = product % PIECE;
+        carry = product / PIECE;
+    }
 }
 
 // ---- Operations ----

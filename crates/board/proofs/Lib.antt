@@ -1,7 +1,8 @@
 -- What the walks of several functions use, and the laws by which they end.
--- The first eight say nothing of this crate, and most of them are cited by others.
+-- The first nine say nothing of this crate, and most of them are cited by others.
 pub mod Callee
 pub mod Arms
+pub mod Counting
 pub mod Bodies
 pub mod Variants
 pub mod GivenUp

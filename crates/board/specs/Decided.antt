@@ -5,8 +5,8 @@ use Prim.Native.Nat.{ℕ}
 use Rattle.trie.specs.declared.Accepted.{Accepted}
 use Rattle.trie.specs.declared.Operation.{Operation}
 use Rattle.trie.specs.declared.Progress.{Progress}
-use Rattle.trie.specs.Values.{Ok, Course, acceptedOf, progressOf}
-use Rattle.trie.specs.Calls.{State, state, After, after, openOf, startOf, stepOf}
+use Rattle.trie.specs.Values.{acceptedOf, progressOf}
+use Rattle.trie.specs.Calls.{State, after, openOf, startOf, stepOf}
 use Rattle.trie.specs.Decided.{accepted-decided, progress-decided}
 
 pub open-one : (n w : ℕ) (s : State) (a b : Accepted) (t u : State) → after (acceptedOf a) t ≡ openOf n w s → after (acceptedOf b) u ≡ openOf n w s → (a ≡ b) × (t ≡ u)

@@ -1,6 +1,5 @@
 -- Open, cut where the board comes in: the tables are opened where it has a record for each worker, and then so many workers rest.
 -- Assumes nothing.
-use mathlib.Core.Bool.{Bool, true, false}
 use mathlib.Core.List.{List}
 use Prim.Native.Nat.{ℕ}
 use Rattle.decibel.specs.Told.{Told, refused, gives}

@@ -8,7 +8,7 @@ use native.Mathlib.Omega.{arith}
 use borrow.Author.Tests.{leb-true}
 use lib.Dec.{leb}
 use lib.ListN.{length, set}
-use Rattle.decibel.specs.Told.{Told, refused, gives}
+use Rattle.decibel.specs.Told.{refused, gives}
 use Rattle.trie.specs.declared.Worker.{Worker}
 use Rattle.trie.specs.Choice.{pick}
 use Rattle.trie.specs.Size.{allowed, mostWorkers}
@@ -17,7 +17,7 @@ use Rattle.trie.specs.Tables.{roomy}
 use Rattle.trie.specs.Record.{idle}
 use Rattle.trie.specs.Values.{Ok, ok}
 use Rattle.trie.specs.Opening.{Opened, filled, openNodes, openVersions, openTablesOf, openBoard, checkTables}
-use Rattle.trie.specs.Calls.{State, state, After, after, check, manned, openOf}
+use Rattle.trie.specs.Calls.{State, state, After, after, check, openOf}
 use Rattle.judging.specs.Judging.{mannedBy}
 use Rattle.judging.specs.JudgingLaws.{manned-by}
 use Rattle.board.specs.Opening.{openMannedOf, restingOf}

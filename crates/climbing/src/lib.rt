@@ -22,7 +22,6 @@ use trie::Bounds;
 use trie::Climb;
 use trie::Held;
 use trie::Next;
-use trie::NodeNumber;
 use trie::Phase;
 use trie::Plan;
 use trie::Version;

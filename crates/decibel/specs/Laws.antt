@@ -2,14 +2,14 @@
 -- Assumes nothing.
 use mathlib.Core.Path.{_≡_, refl, sym, ap, _∙_, subst}
 use mathlib.Core.Bool.{Bool, true, false}
-use Prim.Native.Nat.{ℕ, zero, suc, _+_, _*_, _^_, _≤_, _<_}
+use Prim.Native.Nat.{ℕ, zero, suc, _+_, _^_, _≤_, _<_}
 use native.Mathlib.Nat.{pow-suc, pow-le-pow-left, pow-le-pow-right, lt-of-not-le, not-le-of-lt, le-trans, lt-of-le-of-lt, le-of-suc-le-suc, zero-lt-suc, le-antisymm}
 use native.Mathlib.Omega.{arith}
 use borrow.Author.Tests.{leb-true, leb-false, le-leb, lt-leb}
 use lib.Dec.{leb, lit<}
-use Rattle.decibel.specs.Told.{Told, refused, gives}
+use Rattle.decibel.specs.Told.{refused, gives}
 use Rattle.decibel.specs.Energy.{Rule, grown, tenthRoot, energyOf}
-use Rattle.decibel.specs.Conversion.{loudest, heard, convertOf}
+use Rattle.decibel.specs.Conversion.{loudest, convertOf}
 use Rattle.decibel.specs.Answer.{toldOf}
 use Rattle.decibel.specs.declared.Converted.{Converted}
 use Rattle.decibel.specs.declared.Converted.the-variants.{TooLoud, Is}

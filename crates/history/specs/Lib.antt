@@ -1,3 +1,6 @@
+-- The third demand, in the order in which it is to be read: the statement stands first.
+-- Then comes the proof, from the machine to the calls, and last that the statement is not about nothing.
+
 -- the statement
 pub mod Lists
 pub mod Book

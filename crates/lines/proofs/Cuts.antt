@@ -3,7 +3,7 @@
 use mathlib.Core.Path.{_≡_, refl, sym, ap, _∙_}
 use mathlib.Core.Bool.{Bool, true, false}
 use mathlib.Core.List.{List, [], _∷_, _++_, append-assoc, append-nil}
-use Prim.Native.Nat.{ℕ, _≤_, _<_}
+use Prim.Native.Nat.{ℕ}
 use native.Mathlib.Omega.{arith}
 use borrow.Author.Tests.{ltb-true}
 use lib.Dec.{eqb, ltb}
@@ -12,7 +12,7 @@ use Rattle.trie.specs.Choice.{pick}
 use Rattle.lines.specs.declared.Begun.{Begun}
 use Rattle.lines.specs.Watch.{Watch}
 use Rattle.lines.specs.Turns.{Answered, lineTurn}
-use Rattle.lines.specs.Chunks.{longest, Part, upto, over, more, lineAt, Listing, listing, ended, byteOf, servedOf, partOf, begunOf, Outcome, serveOf}
+use Rattle.lines.specs.Chunks.{longest, Part, upto, over, more, lineAt, Listing, listing, ended, byteOf, servedOf, partOf, serveOf}
 use Rattle.lines.proofs.Feeds.{fits, begun-back, part-fits}
 
 -- two runs of bytes, one after the other, do what they do as one

@@ -1,22 +1,21 @@
 -- An open that is accepted begins a history: the N, W and V that are kept are such as `opened` asks for, so that the next start or step is not refused with 10.
 -- Assumes nothing.
-use mathlib.Core.Path.{_≡_, refl, sym, ap, _∙_}
+use mathlib.Core.Path.{_≡_, refl, ap}
 use mathlib.Core.Bool.{Bool, true, false, _&&_}
 use mathlib.Core.List.{List, [], _∷_}
-use Prim.Native.Nat.{ℕ, zero, suc, _*_, _-_, _/_, _≤_, _<_}
+use Prim.Native.Nat.{ℕ, zero, suc, _*_, _-_, _≤_}
 use native.Mathlib.Omega.{arith}
 use borrow.Author.Tests.{leb-true, le-leb}
 use lib.Dec.{leb}
 use lib.ListN.{length, take}
-use Rattle.decibel.specs.Told.{Told, refused, gives}
-use Rattle.trie.specs.declared.Worker.{Worker}
+use Rattle.decibel.specs.Told.{refused, gives}
 use Rattle.trie.specs.Choice.{pick}
 use Rattle.trie.specs.Size.{allowed, mostWorkers}
 use Rattle.trie.specs.SizeLaws.{and-first, and-both, sized}
-use Rattle.trie.specs.Tables.{width, roomy, roomOf}
+use Rattle.trie.specs.Tables.{width, roomy}
 use Rattle.trie.specs.TableLaws.{room-length, roomy-versions}
 use Rattle.trie.specs.Values.{Ok}
-use Rattle.trie.specs.Calls.{State, After, after, check, manned, openOf}
+use Rattle.trie.specs.Calls.{State, After, check, manned, openOf}
 use Rattle.lines.specs.Watch.{Watch, history, mostCells, mostVersions, opened, lent}
 use Rattle.lines.specs.Turns.{room}
 

@@ -1,12 +1,12 @@
 -- What a whole chunk comes to: the line that is begun at its end, and what was written at the start of the buffer.
 -- Assumes nothing.
-use mathlib.Core.Path.{_≡_, refl, sym, ap, _∙_}
-use mathlib.Core.Bool.{Bool, true, false}
+use mathlib.Core.Path.{_≡_, sym, ap, _∙_}
+use mathlib.Core.Bool.{Bool}
 use mathlib.Core.List.{List, [], _∷_, _++_}
 use Prim.Native.Nat.{ℕ, _*_, _-_, _≤_}
 use native.Mathlib.Omega.{arith}
 use borrow.Author.Tests.{eq-eqb, ne-eqb}
-use lib.Dec.{eqb, leb}
+use lib.Dec.{leb}
 use lib.ListN.{length, take, drop, take-append-drop, length-drop}
 use lib.Seq.{length-take-le, take-all}
 use Rattle.trie.specs.Choice.{pick}
@@ -14,7 +14,7 @@ use Rattle.lines.specs.declared.Begun.{Begun}
 use Rattle.lines.specs.declared.Place.{Place}
 use Rattle.lines.specs.Watch.{Watch}
 use Rattle.lines.specs.Chunks.{longest, Part, upto, over, Listing, listing, byteOf, servedOf, zeros, partOf, begunOf, Outcome, outcome, serveOf, finishOf}
-use Rattle.lines.specs.Feeding.{grown, between, Ends, widest, before}
+use Rattle.lines.specs.Feeding.{grown, between, widest, before}
 use Rattle.lines.specs.Places.{Closes}
 use Rattle.lines.proofs.Feeds.{served-rest}
 

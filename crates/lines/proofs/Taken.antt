@@ -28,7 +28,7 @@ use Rattle.lines.specs.declared.Reply.{Reply}
 use Rattle.lines.specs.declared.Turn.{Turn}
 use Rattle.grammar.specs.Text.{acceptedText, courseText}
 use Rattle.lines.specs.Replies.{replyText}
-use Rattle.lines.specs.Watch.{Watch, watch, history, mostCells, mostVersions, opened, lent, returned}
+use Rattle.lines.specs.Watch.{Watch, watch, mostCells, mostVersions, opened, lent, returned}
 use Rattle.lines.specs.Turns.{Answered, answered, refuses, opens, room, openLine, startLine, stepLine, lineTurn, turned}
 use Rattle.lines.specs.Calling.{wordsOf, noOperation, call, refusal, stepping, callOf, crewOf, keptBy}
 use Rattle.lines.proofs.Feeds.{not-both}

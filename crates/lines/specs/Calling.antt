@@ -1,6 +1,6 @@
 -- The call that a line makes, as the code has it: its kind, the number that it names, and the words of the version table that it is lent.
 -- Kinds: 2 a start, 3 an open; 0 is a refusal, and its number is the refusal's. Assumes nothing.
-use mathlib.Core.Bool.{Bool, true, false}
+use mathlib.Core.Bool.{Bool, false}
 use Prim.Native.Nat.{ℕ, _*_}
 use lib.Dec.{leb}
 use Rattle.grammar.specs.declared.Command.{Command}

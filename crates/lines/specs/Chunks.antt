@@ -1,8 +1,7 @@
 -- What the bytes of the input do, one after the other: a newline ends a line, and any other byte goes into the line that is begun.
 -- Document 01, "The listing program". Assumes nothing.
-use mathlib.Core.Bool.{Bool, true, false}
 use mathlib.Core.List.{List, [], _∷_, _++_}
-use Prim.Native.Nat.{ℕ, zero, suc, _+_, _-_}
+use Prim.Native.Nat.{ℕ, _+_}
 use lib.Dec.{eqb, ltb, leb}
 use lib.ListN.{length, take, drop, replicate}
 use lib.Seq.{paste}

@@ -3,9 +3,6 @@
 use mathlib.Core.Path.{_≡_, sym, ap, _∙_}
 use mathlib.Core.List.{List}
 use Prim.Native.Nat.{ℕ}
-use Rattle.trie.specs.declared.Worker.{Worker}
-use Rattle.lines.specs.declared.Begun.{Begun}
-use Rattle.lines.specs.declared.History.{History}
 use Rattle.lines.specs.declared.Served.{Served}
 use Rattle.lines.specs.Watch.{watch}
 use Rattle.lines.specs.Chunks.{Outcome}

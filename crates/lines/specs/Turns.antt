@@ -1,6 +1,5 @@
 -- What one line does: its text, and what is kept after it.
 -- Document 01, "The listing program". Assumes nothing.
-use mathlib.Core.Bool.{Bool, true, false}
 use mathlib.Core.List.{List}
 use Prim.Native.Nat.{ℕ}
 use lib.Dec.{leb}

@@ -1,10 +1,9 @@
 // Answers as lines of text, put into a lent buffer at an index.
 // Nothing is written but the text itself, so that texts can follow one another in one buffer.
-ghost use mathlib.Core.Path.{_≡_};
 ghost use mathlib.Core.List.{_++_};
 ghost use Prim.Native.Nat.{_+_, _≤_};
 ghost use lib.ListN.{length};
-ghost use Rattle.trie.specs.Values.{Value, level, sums, valueOf, acceptedOf, progressOf};
+ghost use Rattle.trie.specs.Values.{level, sums, valueOf, acceptedOf, progressOf};
 ghost use Rattle.grammar.specs.Text.{Put, decimal, refusedText, doneText, acceptedText, courseText};
 ghost use Rattle.lines.specs.Replies.{replyText};
 use crate::Reply;

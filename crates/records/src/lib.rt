@@ -6,7 +6,7 @@ ghost use lib.Dec.{leb};
 ghost use Rattle.trie.specs.Size.{mostCells};
 ghost use Rattle.records.specs.Phases.{updating};
 ghost use Rattle.records.specs.Fitting.{loudnessOf, madeOf};
-ghost use Rattle.trie.specs.Record.{idle, busyPhase, busy, cellOf, updateFits, queryFits, operationFits, above, climbFits};
+ghost use Rattle.trie.specs.Record.{idle, busy, cellOf, updateFits, queryFits, operationFits, above, climbFits};
 use trie::Bounds;
 use trie::Climb;
 use trie::Operation;

@@ -2,9 +2,8 @@
 -- Document 01, "Steps": Queries. Assumes nothing.
 use mathlib.Core.Bool.{Bool, true, false, _&&_}
 use mathlib.Core.List.{List}
-use Prim.Native.Nat.{ℕ, zero, suc, _+_, _*_, _-_, _/_, _%_, _^_}
+use Prim.Native.Nat.{ℕ, _+_, _*_, _-_, _/_, _%_, _^_}
 use lib.Dec.{eqb, ltb, leb}
-use lib.ListN.{getD}
 use Rattle.decibel.specs.declared.Energy.{Energy}
 use Rattle.trie.specs.declared.NodeNumber.{NodeNumber}
 use Rattle.trie.specs.declared.VersionNumber.{VersionNumber}

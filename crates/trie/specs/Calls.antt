@@ -8,7 +8,7 @@ use lib.ListN.{length, getD, set}
 use Rattle.decibel.specs.Told.{Told, refused, gives}
 use Rattle.trie.specs.declared.Operation.{Operation}
 use Rattle.trie.specs.declared.Worker.{Worker}
-use Rattle.trie.specs.Size.{allowed, heightOf, mostWorkers}
+use Rattle.trie.specs.Size.{allowed, mostWorkers}
 use Rattle.trie.specs.Tables.{roomy}
 use Rattle.trie.specs.Record.{idle, promisedOf}
 use Rattle.trie.specs.Sound.{boundsOf}

@@ -3,7 +3,7 @@
 use mathlib.Core.Path.{_≡_, refl}
 use mathlib.Core.Bool.{Bool, true, false}
 use mathlib.Core.List.{List, [], _∷_, _++_}
-use Prim.Native.Nat.{ℕ, _+_, _*_}
+use Prim.Native.Nat.{ℕ, _*_}
 use lib.Count.{ones, trailingZeros}
 use Rattle.decibel.specs.Told.{Told, refused, gives}
 use Rattle.decibel.specs.Energy.{energyOf}
@@ -26,7 +26,7 @@ use Rattle.trie.specs.Asking.{askOf, lookOf, findOf, rankOf, selectOf}
 use Rattle.trie.specs.Stepping.{planOf, carryOf, stepRecordOf}
 use Rattle.trie.specs.Values.{Value, yes′, none, cell, sums, Ok, ok, Course, on, done}
 use Rattle.trie.specs.Calls.{State, state, openOf, startOf, stepOf, manned}
-use Rattle.trie.specs.Runs.{repeat, lent, insert, start, step}
+use Rattle.trie.specs.Runs.{repeat, lent, insert}
 use Rattle.trie.specs.Refusals.{Case, starts, steps, told, page}
 
 -- five words of a version, before others

@@ -6,14 +6,11 @@ use Prim.Native.Nat.{ℕ, _+_, _/_}
 use lib.Dec.{eqb, ltb}
 use lib.ListN.{getD}
 use Rattle.decibel.specs.Energy.{energyOf}
-use Rattle.trie.specs.declared.NodeNumber.{NodeNumber}
 use Rattle.trie.specs.declared.VersionNumber.{VersionNumber}
 use Rattle.trie.specs.declared.Version.{Version}
 use Rattle.trie.specs.declared.Update.{Update}
-use Rattle.trie.specs.declared.Climb.{Climb}
 use Rattle.trie.specs.declared.Held.{Held}
 use Rattle.trie.specs.declared.Phase.{Phase}
-use Rattle.trie.specs.declared.Worker.{Worker}
 use Rattle.trie.specs.declared.Next.{Next}
 use Rattle.trie.specs.declared.Plan.{Plan}
 use Rattle.trie.specs.declared.Bounds.{Bounds}

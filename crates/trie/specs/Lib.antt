@@ -1,3 +1,5 @@
+-- The definitions of the tree, in the order in which they are to be read: from sizes and tables to the three calls.
+-- Laws about them come after, and last the soundings, which compute them.
 pub mod Choice
 pub mod Size
 pub mod Tables

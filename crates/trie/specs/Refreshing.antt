@@ -2,10 +2,9 @@
 -- Document 01, "Steps": Climb. Assumes nothing.
 use mathlib.Core.Bool.{Bool, true, false, _&&_}
 use mathlib.Core.List.{List}
-use Prim.Native.Nat.{ℕ, _+_, _*_, _/_}
+use Prim.Native.Nat.{ℕ, _+_, _*_}
 use lib.Dec.{eqb, ltb, leb}
 use lib.ListN.{getD}
-use Rattle.trie.specs.declared.NodeNumber.{NodeNumber}
 use Rattle.trie.specs.declared.VersionNumber.{VersionNumber}
 use Rattle.trie.specs.declared.Version.{Version}
 use Rattle.trie.specs.declared.Climb.{Climb}

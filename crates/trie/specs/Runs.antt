@@ -1,10 +1,9 @@
 -- Lists of calls run from the definitions, so that the soundings of document 01 can be computed.
 -- Assumes nothing.
-use mathlib.Core.List.{List, [], _∷_, _++_}
+use mathlib.Core.List.{List, [], _∷_}
 use Prim.Native.Nat.{ℕ, zero, suc, _*_}
-use Rattle.decibel.specs.Told.{Told, refused, gives}
+use Rattle.decibel.specs.Told.{Told, gives}
 use Rattle.trie.specs.declared.Update.{Update}
-use Rattle.trie.specs.declared.Query.{Query}
 use Rattle.trie.specs.declared.Operation.{Operation}
 use Rattle.trie.specs.Record.{idle}
 use Rattle.trie.specs.Values.{Ok, Course, on}

@@ -1,10 +1,9 @@
 -- The numbers that a call is judged by, and when a version is sound at a leaf or at an inner place.
 -- Document 01, "Refusal numbers". Assumes nothing.
-use mathlib.Core.Bool.{Bool, true, false, _&&_, _||_}
+use mathlib.Core.Bool.{Bool, _&&_, _||_}
 use mathlib.Core.List.{List}
 use Prim.Native.Nat.{ℕ, _+_, _*_, _-_}
-use lib.Dec.{eqb, ltb, leb}
-use lib.ListN.{length, getD}
+use lib.Dec.{eqb, leb}
 use Rattle.trie.specs.declared.VersionNumber.{VersionNumber}
 use Rattle.trie.specs.declared.Version.{Version}
 use Rattle.trie.specs.declared.Bounds.{Bounds}

@@ -1,13 +1,11 @@
 -- The starred soundings of document 01, shown from the definitions: one table under one statement.
 -- The order in which D1's updates reach the root is shown where that order is defined, in crate history. Assumes nothing.
 use mathlib.Core.Path.{_≡_, refl}
-use mathlib.Core.Bool.{Bool}
-use mathlib.Core.List.{List, [], _∷_, _++_, map}
-use Prim.Native.Nat.{ℕ, zero, suc, _+_, _*_}
+use mathlib.Core.List.{List, [], _∷_, _++_}
+use Prim.Native.Nat.{ℕ}
 use lib.Count.{ones, trailingZeros}
-use Rattle.decibel.specs.Told.{Told, refused, gives}
+use Rattle.decibel.specs.Told.{gives}
 use Rattle.decibel.specs.Energy.{energyOf}
-use Rattle.trie.specs.declared.Update.{Update}
 use Rattle.trie.specs.declared.Query.{Query}
 use Rattle.trie.specs.declared.Operation.{Operation}
 use Rattle.trie.specs.Record.{above, climbFits}
@@ -20,8 +18,8 @@ use Rattle.trie.specs.Leaf.{readOf, swapOf}
 use Rattle.trie.specs.Refreshing.{joinOf, refreshOf}
 use Rattle.trie.specs.Asking.{askOf, lookOf, findOf, rankOf, selectOf}
 use Rattle.trie.specs.Stepping.{planOf, carryOf, stepRecordOf}
-use Rattle.trie.specs.Values.{Value, yes′, no′, none, level, cell, sums, ok, on, done}
-use Rattle.trie.specs.Calls.{State, openOf, startOf, stepOf, manned}
+use Rattle.trie.specs.Values.{Value, yes′, no′, none, level, cell, sums, ok, done}
+use Rattle.trie.specs.Calls.{openOf, startOf, stepOf, manned}
 use Rattle.trie.specs.Runs.{Call, begin, start, step, Line, said, went, lent, Ran, run, insert, steps, ons}
 
 -- a sounding: levels with their energies; or N, W and V, calls, what each told, and the node table afterwards

@@ -69,9 +69,6 @@ is-stored vs v low top = and-both _ _ (le-leb 1 (v .0) low) (le-leb (v .0) (leng
 pub stored-low : (vs : List ℕ) (v : VersionNumber) → stored vs v ≡ true → 1 ≤ v .0
 stored-low vs v e = leb-true 1 (v .0) (and-first (leb 1 (v .0)) (leb (v .0) (length vs / width)) e)
 
-pub stored-top : (vs : List ℕ) (v : VersionNumber) → stored vs v ≡ true → v .0 ≤ length vs / width
-stored-top vs v e = leb-true (v .0) (length vs / width) (and-second (leb 1 (v .0)) (leb (v .0) (length vs / width)) e)
-
 pub put-length : (vs : List ℕ) (v : VersionNumber) (r : Version) → length (versionPut vs v r) ≡ length vs
 unfolding versionPut
 put-length vs v r = by (stored vs v)
@@ -144,16 +141,3 @@ roomy-versions n nodes vs e = leb-true _ _ (and-second (leb (2 * n) (length node
 pub roomy-same : (n : ℕ) (nodes nodes′ vs vs′ : List ℕ) → length nodes′ ≡ length nodes → length vs′ ≡ length vs → roomy n nodes′ vs′ ≡ roomy n nodes vs
 unfolding roomy
 roomy-same n nodes nodes′ vs vs′ p q = rw (p, room-same vs vs′ q)
-
--- V in the page's numbers: a fifth of the length, or a million where that is less
-pub room-whole : (vs : List ℕ) → length vs / 5 ≤ 1000000 → roomOf vs ≡ length vs / 5
-unfolding roomOf
-room-whole vs l = ap (λ t. pick t (length vs / width) mostVersions) (le-leb (length vs / width) mostVersions l)
-
-pub room-cut : (vs : List ℕ) → 1000000 ≤ length vs / 5 → roomOf vs ≡ 1000000
-unfolding roomOf
-room-cut vs l = by (leb (length vs / width) mostVersions) refl
-  where
-    by : (t : Bool) → leb (length vs / width) mostVersions ≡ t → pick t (length vs / width) mostVersions ≡ 1000000
-    by true e = let k = leb-true (length vs / width) mostVersions e in omega arith
-    by false e = refl

@@ -1,12 +1,10 @@
 -- How versions and nodes stand in the lent tables.
 -- Document 01, "Tables" and the row "versions V". Assumes nothing.
-use mathlib.Core.Bool.{Bool, true, false, _&&_}
+use mathlib.Core.Bool.{Bool, _&&_}
 use mathlib.Core.List.{List}
-use Prim.Native.Nat.{ℕ, zero, suc, _+_, _*_, _-_, _/_, _%_}
-use lib.Dec.{eqb, ltb, leb}
+use Prim.Native.Nat.{ℕ, _+_, _*_, _-_, _/_}
+use lib.Dec.{leb}
 use lib.ListN.{length, getD, set}
-use Rattle.decibel.specs.declared.Level.{Level}
-use Rattle.decibel.specs.declared.Energy.{Energy}
 use Rattle.trie.specs.declared.VersionNumber.{VersionNumber}
 use Rattle.trie.specs.declared.Version.{Version}
 use Rattle.trie.specs.Choice.{pick}

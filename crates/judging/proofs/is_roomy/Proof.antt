@@ -1,6 +1,5 @@
 -- `judging::is_roomy` meets its contract.
 -- Assumes nothing.
-use native.Mathlib.Omega.{arith}
 use Rattle.judging.specs.Judging.{roomyBy}
 use borrow.Author.Needs.{needs}
 use Rattle.judging.proofs.is_roomy.Statement.{statement}

@@ -1,6 +1,5 @@
 -- `judging::judge` meets its contract.
 -- Assumes nothing.
-use mathlib.Core.Path.{sym, ap, _∙_}
 use Rattle.judging.specs.Judging.{judgeOf}
 use borrow.Author.Needs.{needs}
 use Rattle.judging.proofs.judge.Statement.{statement}

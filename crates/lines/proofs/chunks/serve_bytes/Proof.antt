@@ -52,10 +52,11 @@ use Rattle.lines.proofs.History as Hi
 use Rattle.lines.proofs.History.Laws as Hi′
 use Rattle.lines.proofs.Place as Pl
 use Rattle.lines.proofs.Served as Se
+use Rattle.board.proofs.Bodies.{ty-at}
 use Rattle.board.proofs.Callee.{contractOf, asks, calls-told, calls-plain}
 use Rattle.board.proofs.Shared.{at-list}
 use Rattle.lines.proofs.Arrays.{lends-array, takes-array}
-use Rattle.lines.proofs.Rows.{ty-at, R, vals, tells, history-val, begun-val, makes, begun-makes, history-makes, place-makes, served-makes, lawful, begun-lawful, history-lawful, place-lawful, served-lawful}
+use Rattle.lines.proofs.Rows.{R, vals, tells, history-val, begun-val, makes, begun-makes, history-makes, place-makes, served-makes, lawful, begun-lawful, history-lawful, place-lawful, served-lawful}
 use Rattle.lines.proofs.Outcomes.{closes-all}
 use Rattle.lines.proofs.chunks.serve_lines as serve-lines
 use Rattle.lines.proofs.chunks.serve_lines.Symbol as serve-lines-def

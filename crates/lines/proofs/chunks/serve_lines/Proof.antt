@@ -61,13 +61,13 @@ use Rattle.lines.proofs.History.Laws as Hi′
 use Rattle.lines.proofs.Place as Pl
 use Rattle.lines.proofs.Run as Ru
 use Rattle.lines.proofs.Turn as Tu
-use Rattle.board.proofs.Bodies.{rest-of, then-of, else-of}
+use Rattle.board.proofs.Bodies.{rest-of, then-of, else-of, ty-at}
 use Rattle.board.proofs.Tests.{is-true, is-false}
 use Rattle.board.proofs.Callee.{contractOf, asks, asks-none, calls-told, calls-told-last, calls-plain}
 use Rattle.board.proofs.GivenUp.{gives-up}
 use Rattle.board.proofs.Shared.{at-list}
 use Rattle.board.proofs.Lends.{lends-on, takes-on}
-use Rattle.lines.proofs.Rows.{ty-at, ty-spelled, R, history-val, begun-val, line-makes, begun-makes, history-makes, place-makes, run-makes, turn-makes, line-lawful, begun-lawful, history-lawful, place-lawful, run-lawful, turn-lawful}
+use Rattle.lines.proofs.Rows.{ty-spelled, R, history-val, begun-val, line-makes, begun-makes, history-makes, place-makes, run-makes, turn-makes, line-lawful, begun-lawful, history-lawful, place-lawful, run-lawful, turn-lawful}
 use Rattle.lines.proofs.RunLaws.{roomy-still, run-by, run-from, on-opened, none-yet, one-more, run-begins, run-steady, runs-behind}
 use Rattle.lines.proofs.places.first_place as first-place
 use Rattle.lines.proofs.places.first_place.Symbol as first-place-def

@@ -57,13 +57,13 @@ use Rattle.lines.proofs.History as Hi
 use Rattle.lines.proofs.History.Laws as Hi′
 use Rattle.lines.proofs.Run as Ru
 use Rattle.lines.proofs.Run.Laws as Ru′
-use Rattle.board.proofs.Bodies.{rest-of}
+use Rattle.board.proofs.Bodies.{rest-of, ty-at}
 use Rattle.board.proofs.Callee.{contractOf, asks, asks-none, calls-told, calls-told-last, calls-plain}
 use Rattle.lines.proofs.Feeds.{not-both}
 use Rattle.board.proofs.GivenUp.{gives-up}
 use Rattle.board.proofs.Shared.{at-list}
 use Rattle.board.proofs.Lends.{lends-on, takes-on, lends-first, takes-first}
-use Rattle.lines.proofs.Rows.{ty-at, R, history-val, run-val, progress-makes, history-makes, run-makes, progress-lawful, history-lawful, run-lawful}
+use Rattle.lines.proofs.Rows.{R, history-val, run-val, progress-makes, history-makes, run-makes, progress-lawful, history-lawful, run-lawful}
 use Rattle.lines.proofs.RunLaws.{steady-on, step-more}
 use Rattle.lines.proofs.Taken.{lent-most}
 use Rattle.lines.proofs.histories.cells_of as cells-of

@@ -61,13 +61,13 @@ use Rattle.lines.proofs.Call as Ca
 use Rattle.lines.proofs.History as Hi
 use Rattle.lines.proofs.History.Laws as Hi′
 use Rattle.lines.proofs.Turn as Tu
-use Rattle.board.proofs.Bodies.{then-of}
+use Rattle.board.proofs.Bodies.{then-of, ty-at}
 use Rattle.board.proofs.Tests.{is-true, is-false}
 use Rattle.board.proofs.Callee.{contractOf, asks-none, calls-told, calls-plain}
 use Rattle.board.proofs.GivenUp.{gives-up}
 use Rattle.board.proofs.Shared.{at-list}
 use Rattle.board.proofs.Lends.{lends-first, takes-first, shares-on, ceases-on, shares-first, ceases-first}
-use Rattle.lines.proofs.Rows.{ty-at, R, line-val, history-val, line-makes, accepted-makes, operation-makes, history-makes, call-makes, turn-makes, line-lawful, accepted-lawful, operation-lawful, call-lawful, history-lawful, turn-lawful}
+use Rattle.lines.proofs.Rows.{R, line-val, history-val, line-makes, accepted-makes, operation-makes, history-makes, call-makes, turn-makes, line-lawful, accepted-lawful, operation-lawful, call-lawful, history-lawful, turn-lawful}
 use Rattle.lines.proofs.Taken.{words-most, start-taken, open-taken, refused-taken}
 use Rattle.lines.proofs.turns.call_of as call-of
 use Rattle.lines.proofs.turns.call_of.Symbol as call-of-def
