@@ -11,7 +11,7 @@ use Rattle.trie.specs.declared.Worker.{Worker}
 use Rattle.trie.specs.Choice.{pick}
 use Rattle.trie.specs.Record.{idle}
 use Rattle.records.specs.Phases.{updating}
-use Rattle.records.specs.Fitting.{madeOf}
+use Rattle.records.specs.Made.{madeOf}
 use Rattle.board.specs.declared.promising.Tally.{Tally}
 
 -- no word has more zero bits than it has bits

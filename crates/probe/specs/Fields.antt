@@ -10,7 +10,7 @@ use Rattle.trie.specs.declared.Climb.{Climb}
 use Rattle.trie.specs.declared.Standing.{Standing}
 use Rattle.trie.specs.declared.Phase.{Phase}
 use Rattle.trie.specs.declared.Worker.{Worker}
-use Rattle.trie.specs.Record.{cellOf}
+use Rattle.trie.specs.Record.{cellOf, loudnessOf}
 
 -- 1 for yes, 0 for no
 abbrev pub bitOf : Bool → ℕ
@@ -22,11 +22,6 @@ bitOf false = 0
 abbrev pub kindOf : Update → ℕ
 kindOf (Update.Insert k l) = 1
 kindOf (Update.Delete k) = 2
-
--- 0 for a delete
-abbrev pub levelOf : Update → ℕ
-levelOf (Update.Insert k l) = l .0
-levelOf (Update.Delete k) = 0
 
 abbrev pub askedOf : Query → ℕ
 askedOf (Query.Find k) = 3
@@ -69,11 +64,11 @@ rightReadOf (Held.Both v l r) = r .0
 -- ---- a record
 
 abbrev pub updateFields : ℕ → Update → ℕ → List ℕ
-updateFields phase u version = phase ∷ kindOf u ∷ cellOf u ∷ levelOf u ∷ version ∷ 0 ∷ 0 ∷ 0 ∷ 0 ∷ 0 ∷ 0 ∷ 0 ∷ []
+updateFields phase u version = phase ∷ kindOf u ∷ cellOf u ∷ loudnessOf u ∷ version ∷ 0 ∷ 0 ∷ 0 ∷ 0 ∷ 0 ∷ 0 ∷ 0 ∷ []
 
 abbrev pub climbFields : Climb → Held → List ℕ
 climbFields c h =
-    3 ∷ kindOf (c .update) ∷ cellOf (c .update) ∷ levelOf (c .update) ∷ bitOf (c .yes) ∷ c .node .0 ∷ bitOf (c .second) ∷ c .made ∷ readOf h ∷ nodeReadOf h ∷ leftReadOf h ∷ rightReadOf h ∷ []
+    3 ∷ kindOf (c .update) ∷ cellOf (c .update) ∷ loudnessOf (c .update) ∷ bitOf (c .yes) ∷ c .node .0 ∷ bitOf (c .second) ∷ c .made ∷ readOf h ∷ nodeReadOf h ∷ leftReadOf h ∷ rightReadOf h ∷ []
 
 abbrev pub queryFields : ℕ → ℕ → Standing → ℕ → ℕ → List ℕ
 queryFields phase k s fourth fifth = phase ∷ k ∷ s .depth ∷ s .version .0 ∷ fourth ∷ fifth ∷ 0 ∷ 0 ∷ 0 ∷ 0 ∷ 0 ∷ 0 ∷ []

@@ -10,16 +10,16 @@ use Rattle.trie.specs.declared.Climb.{Climb}
 use Rattle.trie.specs.declared.Phase.{Phase}
 use Rattle.trie.specs.declared.Worker.{Worker}
 use Rattle.trie.specs.Choice.{pick}
-use Rattle.trie.specs.Record.{cellOf}
+use Rattle.trie.specs.Record.{cellOf, loudnessOf}
 use Rattle.probe.specs.declared.asking.Change.{Change}
 use Rattle.probe.specs.declared.asking.Question.{Question}
 use Rattle.probe.specs.declared.records.Record.{Record}
 use Rattle.probe.specs.declared.records.Refresh.{Refresh}
-use Rattle.probe.specs.Fields.{bitOf, kindOf, levelOf, askedOf, numberOf, readOf, nodeReadOf, leftReadOf, rightReadOf, updateFields, climbFields, phaseFields, fieldsOf}
+use Rattle.probe.specs.Fields.{bitOf, kindOf, askedOf, numberOf, readOf, nodeReadOf, leftReadOf, rightReadOf, updateFields, climbFields, phaseFields, fieldsOf}
 use Rattle.probe.specs.Asking.{changeOf, questionOf}
 use Rattle.probe.specs.Records.{allZero, inPhase, refreshOf, climbing, climbOf, updateIn, askIn, queryIn, recordOf}
 
-change-back : (u : Update) → changeOf (kindOf u) (cellOf u) (levelOf u) ≡ Change.Is u
+change-back : (u : Update) → changeOf (kindOf u) (cellOf u) (loudnessOf u) ≡ Change.Is u
 unfolding changeOf
 change-back (Update.Insert k l) = refl
 change-back (Update.Delete k) = refl

@@ -1,8 +1,8 @@
 // The twelve numbers of a record, as they stand in a case and in an answer.
 // Each place that has no meaning in the record's phase is 0.
 ghost use mathlib.Core.Path.{_≡_};
-ghost use Rattle.trie.specs.Record.{cellOf};
-ghost use Rattle.probe.specs.Fields.{bitOf, kindOf, levelOf, askedOf, numberOf, readOf, nodeReadOf, leftReadOf, rightReadOf, updateFields, climbFields, queryFields, phaseFields, fieldsOf};
+ghost use Rattle.trie.specs.Record.{cellOf, loudnessOf};
+ghost use Rattle.probe.specs.Fields.{bitOf, kindOf, askedOf, numberOf, readOf, nodeReadOf, leftReadOf, rightReadOf, updateFields, climbFields, queryFields, phaseFields, fieldsOf};
 use trie::Climb;
 use trie::Held;
 use trie::Phase;
@@ -36,7 +36,7 @@ fn cell(update: Update) -> u64
 }
 
 fn level(update: Update) -> u64
-    ensures { λ r. ⌜ r ≡ levelOf update ⌝ }
+    ensures { λ r. ⌜ r ≡ loudnessOf update ⌝ }
 {
     match update {
         Update::Insert(_, l) => l.0,

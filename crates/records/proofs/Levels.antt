@@ -6,8 +6,7 @@ use Prim.Native.Nat.{ℕ}
 use lib.Dec.{ltb, leb}
 use Rattle.decibel.specs.Conversion.{loudest}
 use Rattle.trie.specs.declared.Update.{Update}
-use Rattle.trie.specs.Record.{cellOf, updateFits}
-use Rattle.records.specs.Fitting.{loudnessOf}
+use Rattle.trie.specs.Record.{cellOf, loudnessOf, updateFits}
 
 and-true : (t : Bool) → (t && true) ≡ t
 and-true true = refl

@@ -1,5 +1,5 @@
 -- What the tests of a record say of it,
--- and then the record by what it is at, and its update as plain numbers.
+-- and then the record by what it is at, and what its update has made.
 pub mod Tests
 pub mod Phases
-pub mod Fitting
+pub mod Made

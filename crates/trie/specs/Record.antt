@@ -38,6 +38,11 @@ abbrev pub cellOf : Update → ℕ
 cellOf (Update.Insert k l) = k
 cellOf (Update.Delete k) = k
 
+-- a delete brings no level
+abbrev pub loudnessOf : Update → ℕ
+loudnessOf (Update.Insert k l) = l .0
+loudnessOf (Update.Delete k) = 0
+
 -- the cell is below N, and the level at most 60
 abbrev pub updateFits : ℕ → Update → Bool
 updateFits n (Update.Insert k l) = ltb k n && leb (l .0) loudest

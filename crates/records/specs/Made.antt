@@ -1,13 +1,7 @@
--- An update as plain numbers: the level that it brings, and how many versions it has made.
+-- How many versions the update of a record has made.
 -- Assumes nothing.
 use Prim.Native.Nat.{ℕ}
 use Rattle.trie.specs.declared.Phase.{Phase}
-use Rattle.trie.specs.declared.Update.{Update}
-
--- a delete brings no level
-abbrev pub loudnessOf : Update → ℕ
-loudnessOf (Update.Insert k l) = l .0
-loudnessOf (Update.Delete k) = 0
 
 -- the versions that the update has made; one before its climb has made none
 abbrev pub madeOf : Phase → ℕ
