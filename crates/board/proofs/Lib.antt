@@ -1,16 +1,14 @@
 -- What the walks of several functions use, and the laws by which they end.
--- The first nine say nothing of this crate, and most of them are cited by others.
+-- The first eight say nothing of this crate, and most of them are cited by others.
 pub mod Callee
 pub mod Arms
 pub mod Counting
 pub mod Bodies
-pub mod Variants
 pub mod GivenUp
 pub mod Shared
 pub mod Lends
 pub mod Elements
 pub mod Elem
+pub mod Moves
 pub mod Tests
-pub mod Plans
-pub mod Carries
 pub mod Steps

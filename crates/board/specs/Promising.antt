@@ -11,12 +11,22 @@ use Rattle.trie.specs.declared.Worker.{Worker}
 use Rattle.trie.specs.Choice.{pick}
 use Rattle.trie.specs.Record.{idle}
 use Rattle.records.specs.Phases.{updating}
-use Rattle.records.specs.Made.{madeOf}
 use Rattle.board.specs.declared.promising.Tally.{Tally}
 
 -- no word has more zero bits than it has bits
 abbrev pub mostShare : ℕ
 mostShare = 65
+
+-- the versions that the update has made; one before its climb has made none
+abbrev pub madeOf : Phase → ℕ
+madeOf Phase.Idle = 0
+madeOf (Phase.Read u) = 0
+madeOf (Phase.Swap u v) = 0
+madeOf (Phase.Refresh c held) = c .made
+madeOf (Phase.Ask q) = 0
+madeOf (Phase.Find k s) = 0
+madeOf (Phase.Rank k s count energy) = 0
+madeOf (Phase.Select j s x passed) = 0
 
 -- no worker counted
 abbrev pub none : Tally

@@ -18,9 +18,8 @@ use Rattle.trie.specs.Size.{heightOf}
 use Rattle.trie.specs.SizeLaws.{and-first, and-second}
 use Rattle.trie.specs.Record.{idle, owedPhase, together, promisedOf}
 use Rattle.records.specs.Phases.{updating}
-use Rattle.records.specs.Made.{madeOf}
 use Rattle.board.specs.declared.promising.Tally.{Tally}
-use Rattle.board.specs.Promising.{mostShare, counted, tallyOf, stillDue}
+use Rattle.board.specs.Promising.{mostShare, counted, tallyOf, stillDue, madeOf}
 
 -- ---- bounds on the count
 

@@ -2,12 +2,14 @@
 // Records at W and beyond are never read.
 ghost use mathlib.Core.Path.{_≡_};
 ghost use mathlib.Core.Bool.{true};
-ghost use Prim.Native.Nat.{_+_, _*_, _<_, _≤_, _^_};
+ghost use Prim.Native.Nat.{_+_, _*_, _%_, _<_, _≤_, _^_};
+ghost use lib.Dec.{leb};
 ghost use lib.ListN.{length};
 ghost use Rattle.trie.specs.Choice.{pick};
 ghost use Rattle.trie.specs.Size.{heightOf, mostWorkers};
 ghost use Rattle.trie.specs.Record.{promisedOf};
-ghost use Rattle.board.specs.Promising.{mostShare, none, counted, stillDue};
+ghost use Rattle.board.specs.Promising.{mostShare, madeOf, none, counted, stillDue};
+use trie::Phase;
 use trie::Promised;
 use trie::Worker;
 
@@ -42,17 +44,51 @@ fn one_if(t: bool) -> u64
     if t { 1 } else { 0 }
 }
 
+// What the worker's update has made, of which the seven lowest bits count, and none where it has no update.
+// It is cut where it is read: handed on whole it would be read behind a branch, which nothing foretells.
+fn made_low(w: Worker) -> u64
+    ensures { λ r. ⌜ r ≡ madeOf (w .phase) % 128 ⌝ }
+{
+    let phase = w.phase;
+    match phase {
+        Phase::Idle => 0,
+        Phase::Read(_) => 0,
+        Phase::Swap(_, _) => 0,
+        Phase::Refresh(c, _) => c.made % 128,
+        Phase::Ask(_) => 0,
+        Phase::Find(_, _) => 0,
+        Phase::Rank(_, _, _, _) => 0,
+        Phase::Select(_, _, _, _) => 0,
+    }
+}
+
+// Whether the worker's update has made no more than its share.
+fn is_within(share: u64, w: Worker) -> bool
+    ensures { λ r. ⌜ r ≡ leb (madeOf (w .phase)) share ⌝ }
+{
+    let phase = w.phase;
+    match phase {
+        Phase::Idle => true,
+        Phase::Read(_) => true,
+        Phase::Swap(_, _) => true,
+        Phase::Refresh(c, _) => c.made <= share,
+        Phase::Ask(_) => true,
+        Phase::Find(_, _) => true,
+        Phase::Rank(_, _, _, _) => true,
+        Phase::Select(_, _, _, _) => true,
+    }
+}
+
 // One worker more. No sum hangs on a branch by what the worker is at: nothing foretells that.
 // A number within its share is below 128, so that the sum of what is made is exact where all are within.
 fn count_in(share: u64, t: Tally, w: Worker) -> Tally
     requires { ⌜ (t .updates + 1 < 2 ^ 64) × (t .made + 128 < 2 ^ 64) ⌝ }
     ensures { λ r. ⌜ r ≡ counted share t (w .phase) ⌝ }
 {
-    let made = records::made(w);
     Tally {
         updates: t.updates + one_if(records::is_updating(w)),
-        made: t.made + made % 128,
-        within: t.within & (made <= share),
+        made: t.made + made_low(w),
+        within: t.within & is_within(share, w),
     }
 }
 

@@ -67,11 +67,21 @@ fn miss(c: Climb) -> Next
     }
 }
 
+// The climb is spelled out, as a whole one would be copied with the bytes between its fields.
 fn hold(c: Climb, held: Held) -> Plan
     ensures { λ p. ⌜ p ≡ holds c held ⌝ }
 {
+    let update = c.update;
+    let node = c.node;
+    let same = Climb {
+        update: update,
+        yes: c.yes,
+        node: node,
+        second: c.second,
+        made: c.made,
+    };
     Plan::Keep(Next::On(Worker {
-        phase: Phase::Refresh(c, held),
+        phase: Phase::Refresh(same, held),
     }))
 }
 

@@ -81,7 +81,7 @@ module _ (h : ℕ) where
   -- a plan that does, once it is carried out
   pub data Plays (p : Shared × Worker) (nodes versions : List ℕ) (plan : Plan) : Type 0 where
     keeps : plan ≡ Plan.Keep (nextOf (p .1)) → View h (p .0) nodes versions → Plays p nodes versions plan
-    puts : (v : VersionNumber) (x : NodeNumber) (r : Version) → plan ≡ Plan.Put v x r (nextOf (p .1)) → View h (p .0) (set (set nodes (x .0) (v .0)) 0 (v .0)) (versionPut versions v r)
+    puts : (v : VersionNumber) (x : NodeNumber) (r : Version) → plan ≡ Plan.Put (nextOf (p .1)) v x r → View h (p .0) (set (set nodes (x .0) (v .0)) 0 (v .0)) (versionPut versions v r)
         → Plays p nodes versions plan
 
   after-follows : (G : Shared) (W : Worker) (nodes versions : List ℕ) → View h G nodes versions → Follows (G, W) (afterNext (nextOf W) nodes versions)
@@ -138,7 +138,7 @@ wanted-is (Update.Delete k) = refl
 module _ {h : ℕ} {G : Shared} {nodes versions : List ℕ} {b : Bounds} (v : View h G nodes versions) (closed : Closed (G .ver) (G .used)) (spots : (y : Node) → SpotOk h energyOf G y (at G y))
     (g : Gauge h (usedOf nodes) (roomOf versions) b) (tall : 1 ≤ h) (long : 2 * 2 ^ h ≤ length nodes) (spare : usedOf nodes < roomOf versions) where
   -- a swap that succeeds has room
-  swapped-is : (x : ℕ) (r : Version) (next : Next) → swapped b x r next ≡ Plan.Put (record { 0 = b .used + 1 }) (record { 0 = x }) r next
+  swapped-is : (x : ℕ) (r : Version) (next : Next) → swapped b x r next ≡ Plan.Put next (record { 0 = b .used + 1 }) (record { 0 = x }) r
   swapped-is x r next = rw (lt-ltb (b .used) (b .room) (omega (arith, g .used, g .room)))
 
   next-used : b .used + 1 ≡ usedOf nodes + 1
@@ -180,7 +180,7 @@ module _ {h : ℕ} {G : Shared} {nodes versions : List ℕ} {b : Bounds} (v : Vi
         puts (record { 0 = b .used + 1 }) (record { 0 = leafOf b (o .update) }) (wanted (o .update))
         (rw (update-fits g o (known .fit), leaf-sound g energyOf energy-at-most versions (was-whole v closed spots (cell h o) 0 n leaf-level (p .was)), eq-eqb (getD nodes (leafOf b (o .update)) 0) n (leaf-current ∙ e))
         (swapped-is (leafOf b (o .update)) (wanted (o .update)) (climbs b (o .update) true 1)
-        ∙ ap (λ (next : Next). Plan.Put (record { 0 = b .used + 1 }) (record { 0 = leafOf b (o .update) }) (wanted (o .update)) next) (climbs-is true 1)))
+        ∙ ap (λ (next : Next). Plan.Put next (record { 0 = b .used + 1 }) (record { 0 = leafOf b (o .update) }) (wanted (o .update))) (climbs-is true 1)))
         (subst (λ (x : ℕ). View h (leafTry h energyOf (yes e) G o .0) (set (set nodes x (b .used + 1)) 0 (b .used + 1)) (versionPut versions (record { 0 = b .used + 1 }) (wanted (o .update))))
         (sym (leaf-number g o (known .fit)))
         (view-swap v (cell h o) (b .used + 1) (wanted (o .update)) _ _ _ (omega (arith, leaf-level)) long spare next-used (wanted-is (o .update))))
@@ -242,7 +242,7 @@ module _ {h : ℕ} {G : Shared} {nodes versions : List ℕ} {b : Bounds} (v : Vi
           puts (record { 0 = b .used + 1 }) (record { 0 = number (c .node) }) (sumOf (record { 0 = l }) (record { 0 = r }) (versionOf versions l) (versionOf versions r))
           (rw (sums-are w z, eq-eqb (getD nodes (number (c .node)) 0) n (node-current ∙ e), lt-ltb (c .made) (b .share) (omega (arith, g .share)))
           (swapped-is (number (c .node)) _ _
-          ∙ ap (λ (next : Next). Plan.Put (record { 0 = b .used + 1 }) (record { 0 = number (c .node) }) (sumOf (record { 0 = l }) (record { 0 = r }) (versionOf versions l) (versionOf versions r)) next)
+          ∙ ap (λ (next : Next). Plan.Put next (record { 0 = b .used + 1 }) (record { 0 = number (c .node) }) (sumOf (record { 0 = l }) (record { 0 = r }) (versionOf versions l) (versionOf versions r)))
           (rises-is c (c .made + 1) (c .node) refl ∙ ap (λ (k : ℕ). nextOf (goUp (c .op) (c .res) k (c .node))) (add-one (c .made)))))
           (view-swap v (c .node) (b .used + 1) _ _ _ _ (omega arith) long spare next-used (join-is l r))
       join-by n l r s t m w z (no e) =

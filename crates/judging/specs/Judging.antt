@@ -1,14 +1,11 @@
--- The refusals of a call before anything is planned, told from N, W, the worker's number and the lengths of what is lent, and of a step also from its record.
+-- The refusals of a call that are told from N, W, the worker's number and the lengths of what is lent.
 -- 0 stands for none of them. Assumes nothing.
 use mathlib.Core.Bool.{Bool, _&&_}
-use mathlib.Core.List.{List}
 use Prim.Native.Nat.{ℕ, _*_, _-_, _/_}
 use lib.Dec.{ltb, leb}
-use Rattle.trie.specs.declared.Worker.{Worker}
 use Rattle.trie.specs.Choice.{pick}
 use Rattle.trie.specs.Size.{allowed, mostWorkers}
-use Rattle.trie.specs.Tables.{width, mostVersions, roomy}
-use Rattle.trie.specs.Record.{busy}
+use Rattle.trie.specs.Tables.{width, mostVersions}
 
 -- W is 1 to 16, and the board has as many records
 unfoldable pub mannedBy : ℕ → ℕ → Bool
@@ -28,7 +25,3 @@ absentOf n manned nodes versions = pick (allowed n) (pick manned (pick (roomyBy 
 
 unfoldable pub judgeOf : ℕ → ℕ → ℕ → ℕ → ℕ → ℕ → ℕ
 judgeOf n w i nodes versions seats = pick (mannedBy w seats && ltb i w) 0 (absentOf n (mannedBy w seats) nodes versions)
-
--- the refusals of a step that the record, N and the tables decide: 1, 3 and 6; 0 stands for none of them
-unfoldable pub judgeRecordOf : ℕ → Worker → List ℕ → List ℕ → ℕ
-judgeRecordOf n w nodes versions = pick (allowed n) (pick (roomy n nodes versions) (pick (busy w) 0 6) 3) 1

@@ -17,11 +17,11 @@ use Rattle.trie.specs.Size.{allowed, heightOf, mostWorkers}
 use Rattle.trie.specs.SizeLaws.{and-first, and-second}
 use Rattle.trie.specs.Tables.{roomOf, roomy}
 use Rattle.trie.specs.Sound.{boundsOf}
-use Rattle.trie.specs.Record.{idle, busy, promisedOf}
+use Rattle.trie.specs.Record.{idle, promisedOf}
 use Rattle.trie.specs.Starting.{Started, check as checkStart, startRecordOf}
-use Rattle.trie.specs.Stepping.{Stepped, check as checkStep, refuses, planOf, carryOf, stepRecordOf}
+use Rattle.trie.specs.Stepping.{Stepped, check as checkStep, stepRecordOf}
 use Rattle.trie.specs.Calls.{State, state, After, after, check, manned, checkCall, startAt, startOf, stepAt, stepOf}
-use Rattle.judging.specs.Judging.{mannedBy, roomBy, roomyBy, absentOf, judgeOf, judgeRecordOf}
+use Rattle.judging.specs.Judging.{mannedBy, roomBy, roomyBy, absentOf, judgeOf}
 
 pub manned-by : (w : ℕ) (board : List Worker) → manned w board ≡ mannedBy w (length board)
 unfolding manned mannedBy
@@ -126,33 +126,3 @@ module _ (n w i : ℕ) (nodes versions : List ℕ) (board : List Worker) where
   pub start-refused : (o : Operation) → eqb judgedOf 0 ≡ false → startOf n w i o s ≡ after (refused judgedOf) s
   unfolding startOf
   start-refused o e = call-refused _ e
-
--- ---- the judging of a record that is stepped
-
-abbrev judged-record : Bool → Bool → Bool → ℕ
-judged-record p r t = pick p (pick r (pick t 0 6) 3) 1
-
-refused-record-by : (p r t : Bool) (w : Worker) (nodes versions : List ℕ) (x : Stepped) → eqb (judged-record p r t) 0 ≡ false
-    → checkStep p 1 w nodes versions (checkStep r 3 w nodes versions (checkStep t 6 w nodes versions x)) ≡ refuses (judged-record p r t) w nodes versions
-refused-record-by true true true w nodes versions x e = absurd (let z : _≡_ {A = ℕ} 0 1 = cc in omega arith)
-refused-record-by true true false w nodes versions x e = refl
-refused-record-by true false t w nodes versions x e = refl
-refused-record-by false r t w nodes versions x e = refl
-
-fit-record-by : (p r t : Bool) (w : Worker) (nodes versions : List ℕ) (x : Stepped) → eqb (judged-record p r t) 0 ≡ true
-    → (p ≡ true) × (checkStep p 1 w nodes versions (checkStep r 3 w nodes versions (checkStep t 6 w nodes versions x)) ≡ x)
-fit-record-by true true true w nodes versions x e = (refl, refl)
-fit-record-by true true false w nodes versions x e = absurd (let z : _≡_ {A = ℕ} 0 1 = cc in omega arith)
-fit-record-by true false t w nodes versions x e = absurd (let z : _≡_ {A = ℕ} 0 1 = cc in omega arith)
-fit-record-by false r t w nodes versions x e = absurd (let z : _≡_ {A = ℕ} 0 1 = cc in omega arith)
-
-module _ (n : ℕ) (w : Worker) (nodes versions : List ℕ) where
-  -- a number: the step is refused
-  pub record-refused : eqb (judgeRecordOf n w nodes versions) 0 ≡ false → stepRecordOf n w nodes versions ≡ refuses (judgeRecordOf n w nodes versions) w nodes versions
-  unfolding judgeRecordOf stepRecordOf
-  record-refused e = refused-record-by (allowed n) (roomy n nodes versions) (busy w) w nodes versions _ e
-
-  -- 0: its plan is carried out
-  pub record-fits : eqb (judgeRecordOf n w nodes versions) 0 ≡ true → (allowed n ≡ true) × (stepRecordOf n w nodes versions ≡ carryOf (planOf (boundsOf n nodes versions) (w .phase) nodes versions) w nodes versions)
-  unfolding judgeRecordOf stepRecordOf
-  record-fits e = fit-record-by (allowed n) (roomy n nodes versions) (busy w) w nodes versions _ e

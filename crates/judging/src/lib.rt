@@ -1,10 +1,9 @@
-// The refusals of a call before anything is planned: 1, 2, 3 and 4 from N, W, the worker's number and the lengths of what is lent;
-// and those of a step that its record decides with N and the tables. Where there is none the answer is 0.
+// The refusals of a call that N, W, the worker's number and the lengths of what is lent decide: 1, 2, 3 and 4.
+// Where the board has such a worker the answer is 0, and 1 and 3 are left to the call on its record.
 ghost use mathlib.Core.Path.{_≡_};
 ghost use Prim.Native.Nat.{_≤_};
 ghost use Rattle.trie.specs.Size.{mostCells};
-ghost use Rattle.judging.specs.Judging.{mannedBy, roomBy, roomyBy, absentOf, judgeOf, judgeRecordOf};
-use trie::Worker;
+ghost use Rattle.judging.specs.Judging.{mannedBy, roomBy, roomyBy, absentOf, judgeOf};
 
 pub fn is_manned(w: u64, seats: usize) -> bool
     ensures { λ r. ⌜ r ≡ mannedBy w seats ⌝ }
@@ -48,17 +47,4 @@ pub fn judge(n: u64, w: u64, i: u64, nodes: usize, versions: usize, seats: usize
         return 0;
     }
     judge_absent(n, manned, nodes, versions)
-}
-
-// The refusals of a step that its record, N and the tables' lengths decide: 1, 3 and 6, or 0 for none.
-pub fn judge_record(n: u64, w: Worker, nodes: &[u64], versions: &[u64]) -> u64
-    ensures { λ r. ⌜ r ≡ judgeRecordOf n w (now (nodes .entry)) (now (versions .entry)) ⌝ }
-{
-    if !tables::is_allowed(n) {
-        return 1;
-    }
-    if !tables::is_roomy(n, nodes, versions) {
-        return 3;
-    }
-    if records::is_busy(w) { 0 } else { 6 }
 }

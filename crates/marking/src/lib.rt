@@ -87,7 +87,7 @@ pub fn plan_swap(b: Bounds, x: NodeNumber, r: Version, next: Next) -> Plan
 {
     let used = b.used;
     if used < b.room {
-        Plan::Put(VersionNumber(used + 1), x, r, next)
+        Plan::Put(next, VersionNumber(used + 1), x, r)
     } else {
         Plan::Damaged
     }

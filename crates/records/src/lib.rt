@@ -1,11 +1,11 @@
-// A worker's record: is it busy, are its numbers in range, is it at an update, and what has that made.
+// A worker's record: is it busy, are its numbers in range, and is it at an update.
 // What a phase has not read it does not hold, so few damaged records can be written down at all.
 ghost use mathlib.Core.Path.{_≡_};
 ghost use mathlib.Core.Bool.{_&&_};
+ghost use Prim.Native.Nat.{_≤_};
 ghost use lib.Dec.{leb};
 ghost use Rattle.trie.specs.Size.{mostCells};
 ghost use Rattle.records.specs.Phases.{updating};
-ghost use Rattle.records.specs.Made.{madeOf};
 ghost use Rattle.trie.specs.Record.{loudnessOf, idle, busy, cellOf, updateFits, queryFits, operationFits, above, climbFits};
 use trie::Bounds;
 use trie::Climb;
@@ -83,18 +83,13 @@ pub fn operation_fits(n: u64, o: Operation) -> bool
 }
 
 // Whether x is one of the nodes above y, up to that many levels.
+// Only the one that has as many binary digits as x can be x. Where x has as many as y or more, `up` wraps, and what it leaves of y is too short.
 fn is_above(levels: u64, y: u64, x: u64) -> bool
+    requires { ⌜ 1 ≤ y ⌝ }
     ensures { λ r. ⌜ r ≡ above levels y x ⌝ }
 {
-    let mut found = false;
-    let mut at = y;
-    let mut i = 0;
-    while i < levels {
-        at = at / 2;
-        found = found | (x == at);
-        i += 1;
-    }
-    found
+    let up = ((63 + u64::leading_zeros(x) - u64::leading_zeros(y)) % 64) as u64;
+    (up < levels) & (y / 2 >> up == x)
 }
 
 // No climb fits where there are more cells than in any tree.
@@ -129,22 +124,5 @@ pub fn is_updating(w: Worker) -> bool
         Phase::Find(_, _) => false,
         Phase::Rank(_, _, _, _) => false,
         Phase::Select(_, _, _, _) => false,
-    }
-}
-
-// How many versions the worker's update has made, and none where it has no update.
-pub fn made(w: Worker) -> u64
-    ensures { λ r. ⌜ r ≡ madeOf (w .phase) ⌝ }
-{
-    let phase = w.phase;
-    match phase {
-        Phase::Idle => 0,
-        Phase::Read(_) => 0,
-        Phase::Swap(_, _) => 0,
-        Phase::Refresh(c, _) => c.made,
-        Phase::Ask(_) => 0,
-        Phase::Find(_, _) => 0,
-        Phase::Rank(_, _, _, _) => 0,
-        Phase::Select(_, _, _, _) => 0,
     }
 }

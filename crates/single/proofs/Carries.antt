@@ -44,7 +44,7 @@ module _ (p : Plan) (nodes versions : List ℕ) where
   unfolding carryOf
   carry-keeps next r is e w = rw (is, e) (moved-after next w nodes versions)
 
-  pub carry-puts : (v : VersionNumber) (x : NodeNumber) (q : Version) (next : Next) (r : Moved) (nodes′ nodes″ versions′ : List ℕ) → p ≡ Plan.Put v x q next → r ≡ movedTo next
+  pub carry-puts : (v : VersionNumber) (x : NodeNumber) (q : Version) (next : Next) (r : Moved) (nodes′ nodes″ versions′ : List ℕ) → p ≡ Plan.Put next v x q → r ≡ movedTo next
       → versions′ ≡ versionPut versions v q → nodes′ ≡ set nodes (x .0) (v .0) → nodes″ ≡ set nodes′ 0 (v .0) → Carried r nodes″ versions′ p nodes versions
   unfolding carryOf
   carry-puts v x q next r nodes′ nodes″ versions′ is e ev en en′ w =

@@ -1,4 +1,3 @@
--- Laws by which the walks of the two steps end:
--- first a step by value, and then the one that is made where its record lies.
+-- The laws by which the proofs of one record's step end.
+-- They say what a plan carried out comes to, phase by phase.
 pub mod Carries
-pub mod Moving

@@ -52,7 +52,7 @@ climbs b u result made = climbsFrom (leafOf b u) u result made
 
 -- a swap that would succeed finds room for one version more
 abbrev pub swapped : Bounds → ℕ → Version → Next → Plan
-swapped b x r next = sure (ltb (b .used) (b .room)) (Plan.Put (record { 0 = b .used + 1 }) (record { 0 = x }) r next)
+swapped b x r next = sure (ltb (b .used) (b .room)) (Plan.Put next (record { 0 = b .used + 1 }) (record { 0 = x }) r)
 
 unfoldable pub readOf : Bounds → Update → List ℕ → List ℕ → Plan
 readOf b u nodes versions =

@@ -51,7 +51,7 @@ swapsAt b (Phase.Select j s x c) = 0
 pub data Puts (b : Bounds) (x : ℕ) : Plan → Type 0 where
   damaged : Puts b x Plan.Damaged
   keeps : {next : Next} → Puts b x (Plan.Keep next)
-  puts : {v : VersionNumber} {y : NodeNumber} {r : Version} {next : Next} → v .0 ≡ b .used + 1 → y .0 ≡ x → b .used < b .room → Puts b x (Plan.Put v y r next)
+  puts : {v : VersionNumber} {y : NodeNumber} {r : Version} {next : Next} → v .0 ≡ b .used + 1 → y .0 ≡ x → b .used < b .room → Puts b x (Plan.Put next v y r)
 
 module _ (b : Bounds) (x : ℕ) where
   sure-puts : (t : Bool) (p : Plan) → Puts b x p → Puts b x (sure t p)
@@ -65,7 +65,7 @@ module _ (b : Bounds) (x : ℕ) where
   swapped-puts : (r : Version) (next : Next) → Puts b x (swapped b x r next)
   swapped-puts r next = by (ltb (b .used) (b .room)) refl
     where
-      by : (t : Bool) → ltb (b .used) (b .room) ≡ t → Puts b x (sure t (Plan.Put (record { 0 = b .used + 1 }) (record { 0 = x }) r next))
+      by : (t : Bool) → ltb (b .used) (b .room) ≡ t → Puts b x (sure t (Plan.Put next (record { 0 = b .used + 1 }) (record { 0 = x }) r))
       by true e = puts refl refl (ltb-true (b .used) (b .room) e)
       by false e = damaged
 
@@ -189,8 +189,8 @@ unfolding carryOf
 carry-refused Plan.Damaged w nodes versions k e = ap (λ (m : ℕ). refuses m w nodes versions) (cc)
 carry-refused (Plan.Keep (Next.On w′)) w nodes versions k e = gives-not e
 carry-refused (Plan.Keep (Next.Done a)) w nodes versions k e = gives-not e
-carry-refused (Plan.Put v x r (Next.On w′)) w nodes versions k e = gives-not e
-carry-refused (Plan.Put v x r (Next.Done a)) w nodes versions k e = gives-not e
+carry-refused (Plan.Put (Next.On w′) v x r) w nodes versions k e = gives-not e
+carry-refused (Plan.Put (Next.Done a) v x r) w nodes versions k e = gives-not e
 
 pub step-refused : (n : ℕ) (w : Worker) (nodes versions : List ℕ) (k : ℕ) → stepRecordOf n w nodes versions .told ≡ refused k
     → stepRecordOf n w nodes versions ≡ refuses k w nodes versions

@@ -81,7 +81,7 @@ steppedBy m w nodes versions = record { told = progressOf (progressBy m); worker
 unfoldable pub carryOf : Plan → Worker → List ℕ → List ℕ → Stepped
 carryOf Plan.Damaged w nodes versions = refuses 9 w nodes versions
 carryOf (Plan.Keep next) w nodes versions = afterNext next nodes versions
-carryOf (Plan.Put v x r next) w nodes versions = afterNext next (set (set nodes (x .0) (v .0)) 0 (v .0)) (versionPut versions v r)
+carryOf (Plan.Put next v x r) w nodes versions = afterNext next (set (set nodes (x .0) (v .0)) 0 (v .0)) (versionPut versions v r)
 
 unfoldable pub stepRecordOf : ℕ → Worker → List ℕ → List ℕ → Stepped
 stepRecordOf n w nodes versions =

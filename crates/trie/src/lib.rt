@@ -106,10 +106,11 @@ pub enum Next {
 }
 
 // What a step is going to do, before anything is written.
+// The worker after it stands first in both, at the same place, so that the two are copied alike.
 pub enum Plan {
     Damaged,
     Keep(Next),
-    Put(VersionNumber, NodeNumber, Version, Next),
+    Put(Next, VersionNumber, NodeNumber, Version),
 }
 
 // What the busy updates of the board may still make; or one of them has made too many.
@@ -155,8 +156,9 @@ pub enum Reached {
 }
 
 // What a step makes of a record: nothing, as it is refused; the record one step further on; or an answer, which leaves it idle.
+// The refusal's number is of one byte, so that it stands beside the record and not in its place: what is copied is shorter so.
 pub enum Moved {
-    Refused(u64),
+    Refused(u8),
     On(Worker),
     Done(Answer),
 }

@@ -22,7 +22,7 @@ add-is-above : tie.Need-add-is-above
 add-is-above c = let few = c .before .before .before .if1 .left in omega (arith, c .cell .ensures, fits-cell (c .before .before .before .before .before .args .b .cells) (c .before .before .before .before .before .args .c .update) (sym (c .before .before .update-fits .ensures) ∙ c .before .if2 .taken))
 
 is-above-requires : tie.Need-is-above-requires
-is-above-requires c κs = search needs
+is-above-requires c κs = omega (arith, c .cell .ensures, fits-cell (c .before .before .before .before .before .args .b .cells) (c .before .before .before .before .before .args .c .update) (sym (c .before .before .update-fits .ensures) ∙ c .before .if2 .taken))
 
 returns-2 : tie.Need-returns-2
 unfolding climbFits
