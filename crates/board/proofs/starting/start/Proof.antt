@@ -24,13 +24,12 @@ use types.Part.{agg, whole, sub, look-in}
 use types.Run.{look, look-raw, init, store, store-raw, forget, stop, hop, fld, from, load, addr, lit, and-then, no-more, of-opd, bin, assigns, land, land-last, first, branches, exec, returns, enter, alloc1, alloc0, params1, pass1, pass0, free1, free0}
 use sound.WpLaws.{FmC, fmOf, WpFn-mono}
 use denote.RattleType.{owns}
-use denote.Shadow.{pureI}
-use denote.Laws.{Is, shows}
+use denote.Laws.{Is}
 use denote.Plain.{uint-vals, uint-tells, uint-makes, uint-lawful}
 use denote.Builtin.{usize, u64}
 use denote.Ref.{RefT}
-use denote.Slice.{sliceVal, MutSlice, ShrSlice, Room, slice-vals, mut-slice-tells, shr-slice-tells, shr-slice-copy, at-slice}
-use denote.Index.{place-is, elem-out, elem-put, opens-slice, closes-slice}
+use denote.Slice.{sliceVal, MutSlice, ShrSlice, Room, slice-vals, mut-slice-tells, shr-slice-tells, shr-slice-copy}
+use denote.Index.{place-is}
 use denote.Signature.{plain}
 use denote.Steps.{only, owned, nothing}
 use denote.Enum.Laws as EL
@@ -64,6 +63,7 @@ use Rattle.judging.specs.JudgingLaws.{judgedOf, seated, start-seated, start-ref
 use Rattle.board.proofs.Callee.{contractOf, Last, leaves, asks-none, calls-told, calls-plain, calls-plain-last}
 use Rattle.board.proofs.Tests.{is-true, is-false}
 use Rattle.board.proofs.Shared.{at-list, calls-shared}
+use Rattle.board.proofs.Elements.{takes-out, stores-in}
 use Rattle.board.proofs.Elem.{R, vals, tells, makes, lawful, bytes, step-fits, begun-makes, begun-lawful, accepted-makes, accepted-lawful, promised-makes, promised-lawful, operation-makes, operation-lawful}
 use Rattle.judging.proofs.judge as judge
 use Rattle.judging.proofs.judge.Symbol as judge-def
@@ -236,36 +236,35 @@ module _ {M : Type 1} (𝓤 : URA M) (H : Heap 𝓤) (A : Atoms 𝓤) (W : Given
         (λ ν δ. and-then ! (load ! (from ! (stop !)) (look ! 23 refl)) (and-then ! (load ! (from ! (stop !)) (look ! 21 refl)) (and-then ! (load ! (from ! (stop !)) (look ! 17 refl)) (no-more !)))) (λ v″ p ep.
         land ! (from ! (stop !)) (init ! 36 refl (promised-lawful 𝓤 H A W .typed p (v″ ∷ []) (ep .1) .0)) $
         assigns ! (of-opd ! (load ! (from ! (stop !)) (look ! 48 refl))) (from ! (stop !)) (init ! 34 refl (tt, record { fits = gi })) $
-        fsplit ! $ move ! (1 ∷ []) $ fsplit ! $ move ! (0 ∷ 1 ∷ 3 ∷ []) $ opens-slice ! tt R ys b₃ o₃ $ elem-out ! R (Is R) (shows 𝓤 H A R) vals tells fullShare ys i idle b₃ o₃ li (λ g.
-        assigns ! (bin ! (load ! (from ! (stop !)) (look ! 39 refl)) (lit ! tt) (step-fits (length ys) i room₃ li)) (from ! (stop !)) (store ! 23 refl (tt, step-fits (length ys) i room₃ li)) $
-        assigns ! (bin ! (load ! (from ! (fld ! refl (stop !))) (look-in ! 45 (sub ! 0 refl (whole !)))) (load ! (from ! (stop !)) (look ! 23 refl)) tt) (from ! (stop !)) (init ! 17 refl (tt, tt)) $
-        rewrite ! 17 (λ (m : ℕ). ‵ (fat fullShare tyPtr l₂₁ 0 (vptr b₃ m))) (sym (place-is bytes o₃ i)) refl $
-        assigns ! (of-opd ! (load ! (from ! (hop ! (look ! 17 refl) (stop !))) (look-raw ! 0 refl))) (from ! (stop !)) (init ! 15 refl (lawful 𝓤 H A W .typed elem (vals elem) g .0)) $
-        move ! (12 ∷ []) $ use1 W (‵ (ShrSlice (named 0) κ₁ u64 .own (at-list b₁ o₁ γ₁ ns) (s₁ ∷ [])) ⊛ ‵ (ShrSlice (named 0) κ₁ u64 .own (at-list b₁ o₁ γ₁ ns) (s₁ ∷ []))) (shr-slice-copy 𝓤 H A W (named 0) κ₁ u64 .twice (at-list b₁ o₁ γ₁ ns) (s₁ ∷ [])) $ split ! $
-        move ! (13 ∷ []) $ use1 W (‵ (ShrSlice (named 1) κ₂ u64 .own (at-list b₂ o₂ γ₂ vs) (s₂ ∷ [])) ⊛ ‵ (ShrSlice (named 1) κ₂ u64 .own (at-list b₂ o₂ γ₂ vs) (s₂ ∷ []))) (shr-slice-copy 𝓤 H A W (named 1) κ₂ u64 .twice (at-list b₂ o₂ γ₂ vs) (s₂ ∷ [])) $ split ! $
-        move ! (1 ∷ 14 ∷ []) $ fjoin ! $ move ! (3 ∷ []) $ fjoin ! $ owned ! R (Is R) (makes 𝓤 H A) elem (vals elem) g $ fjoin ! $ owned ! Su.the-row (Is Su.the-row) (promised-makes 𝓤 H A) p (v″ ∷ []) (ep .1) $ fjoin ! $ owned ! Op.the-row (Is Op.the-row) (operation-makes 𝓤 H A) op (ops op) io $ fjoin ! $ owned ! u64 (Is u64) (uint-makes 𝓤 H A W w64) n _ (refl, gn) $ fjoin ! $ move ! (11 ∷ 10 ∷ []) $ join ! $ move ! (11 ∷ []) $ join ! $ join ! $
+        takes-out ! tt R vals tells ys i idle li (λ g.
+        assigns ! (bin ! (load ! (from ! (stop !)) (look ! 34 refl)) (lit ! tt) (step-fits (length ys) i room₃ li)) (from ! (stop !)) (store ! 18 refl (tt, step-fits (length ys) i room₃ li)) $
+        assigns ! (bin ! (load ! (from ! (fld ! refl (stop !))) (look-in ! 40 (sub ! 0 refl (whole !)))) (load ! (from ! (stop !)) (look ! 18 refl)) tt) (from ! (stop !)) (init ! 12 refl (tt, tt)) $
+        rewrite ! 12 (λ (m : ℕ). ‵ (fat fullShare tyPtr l₂₁ 0 (vptr b₃ m))) (sym (place-is bytes o₃ i)) refl $
+        assigns ! (of-opd ! (load ! (from ! (hop ! (look ! 12 refl) (stop !))) (look-raw ! 0 refl))) (from ! (stop !)) (init ! 10 refl (lawful 𝓤 H A W .typed elem (vals elem) g .0)) $
+        move ! (7 ∷ []) $ use1 W (‵ (ShrSlice (named 0) κ₁ u64 .own (at-list b₁ o₁ γ₁ ns) (s₁ ∷ [])) ⊛ ‵ (ShrSlice (named 0) κ₁ u64 .own (at-list b₁ o₁ γ₁ ns) (s₁ ∷ []))) (shr-slice-copy 𝓤 H A W (named 0) κ₁ u64 .twice (at-list b₁ o₁ γ₁ ns) (s₁ ∷ [])) $ split ! $
+        move ! (8 ∷ []) $ use1 W (‵ (ShrSlice (named 1) κ₂ u64 .own (at-list b₂ o₂ γ₂ vs) (s₂ ∷ [])) ⊛ ‵ (ShrSlice (named 1) κ₂ u64 .own (at-list b₂ o₂ γ₂ vs) (s₂ ∷ []))) (shr-slice-copy 𝓤 H A W (named 1) κ₂ u64 .twice (at-list b₂ o₂ γ₂ vs) (s₂ ∷ [])) $ split ! $
+        move ! (1 ∷ 9 ∷ []) $ fjoin ! $ move ! (3 ∷ []) $ fjoin ! $ owned ! R (Is R) (makes 𝓤 H A) elem (vals elem) g $ fjoin ! $ owned ! Su.the-row (Is Su.the-row) (promised-makes 𝓤 H A) p (v″ ∷ []) (ep .1) $ fjoin ! $ owned ! Op.the-row (Is Op.the-row) (operation-makes 𝓤 H A) op (ops op) io $ fjoin ! $ owned ! u64 (Is u64) (uint-makes 𝓤 H A W w64) n _ (refl, gn) $ fjoin ! $ move ! (6 ∷ 5 ∷ []) $ join ! $ move ! (6 ∷ []) $ join ! $ join ! $
         use1 W (raw (contractOf 𝓤 H A start-record.ended (start-record.clauses 𝓤 H A mem run) .pre (to-start p v″))) (asks-none 𝓤 H A W _) $
         calls-told ! fm start-record.ended (start-record.clauses 𝓤 H A mem run) by-start-record (to-start p v″) (λ r zs. started (r .accepted) (r .worker) ≡ startRecordOf n op p elem ns vs) (λ r zs. id⊢ 𝓤 _)
-        (and-then ! (load ! (from ! (stop !)) (look ! 54 refl)) (and-then ! (load ! (from ! (stop !)) (look ! 48 refl)) (and-then ! (load ! (from ! (stop !)) (look ! 38 refl)) (and-then ! (load ! (from ! (stop !)) (look ! 12 refl)) (and-then ! (load ! (from ! (stop !)) (look ! 46 refl)) (and-then ! (load ! (from ! (stop !)) (look ! 44 refl)) (no-more !))))))) (λ vr r zs e is.
+        (and-then ! (load ! (from ! (stop !)) (look ! 49 refl)) (and-then ! (load ! (from ! (stop !)) (look ! 43 refl)) (and-then ! (load ! (from ! (stop !)) (look ! 33 refl)) (and-then ! (load ! (from ! (stop !)) (look ! 7 refl)) (and-then ! (load ! (from ! (stop !)) (look ! 41 refl)) (and-then ! (load ! (from ! (stop !)) (look ! 39 refl)) (no-more !))))))) (λ vr r zs e is.
         use1 W (‵ (flft κ₁ q₁) ⊛ (‵ (flft κ₂ q₂) ⊛ ‵ ftrue)) (id⊢ 𝓤 _) $ split ! $ move ! (1 ∷ []) $ split ! $ move ! (3 ∷ []) $ drop ! $
-        land ! (from ! (stop !)) (init ! 36 refl (begun-lawful 𝓤 H A W .typed r (vr ∷ []) is .0)) $
+        land ! (from ! (stop !)) (init ! 31 refl (begun-lawful 𝓤 H A W .typed r (vr ∷ []) is .0)) $
         calls-plain ! fm worker-after.ended (worker-after.clauses 𝓤 H A mem run) by-worker-after ((tt, tt, tt, (r, tt), (vr ∷ [], tt)), tt) (λ r′ ws. r′ ≡ r .worker) (λ r ws. id⊢ 𝓤 _)
-        (qed W [] ∵ nothing ! $ owned ! Be.the-row (Is Be.the-row) (begun-makes 𝓤 H A) r (vr ∷ []) is $ fjoin ! $ nothing ! $ join ! $ frame ! $ done !) (and-then ! (load ! (from ! (stop !)) (look ! 37 refl)) (no-more !)) (λ v₁ r₁ _ e₃ is₁.
-        land ! (from ! (stop !)) (store ! 14 refl (lawful 𝓤 H A W .typed r₁ (v₁ ∷ []) is₁ .0)) $
-        assigns ! (bin ! (load ! (from ! (stop !)) (look ! 38 refl)) (lit ! tt) (step-fits (length ys) i room₃ li)) (from ! (stop !)) (store ! 22 refl (tt, step-fits (length ys) i room₃ li)) $
-        assigns ! (bin ! (load ! (from ! (fld ! refl (stop !))) (look-in ! 44 (sub ! 0 refl (whole !)))) (load ! (from ! (stop !)) (look ! 22 refl)) tt) (from ! (stop !)) (init ! 12 refl (tt, tt)) $
-        rewrite ! 12 (λ (m : ℕ). ‵ (fat fullShare tyPtr l₂₃ 0 (vptr b₃ m))) (sym (place-is bytes o₃ i)) refl $
-        assigns ! (of-opd ! (load ! (from ! (stop !)) (look ! 14 refl))) (from ! (hop ! (look ! 12 refl) (stop !))) (store-raw ! 5 refl (lawful 𝓤 H A W .typed r₁ (v₁ ∷ []) is₁ .0)) $
-        move ! (6 ∷ []) $ drop ! $ owned ! R (Is R) (makes 𝓤 H A) r₁ (v₁ ∷ []) is₁ $ move ! (6 ∷ 0 ∷ 7 ∷ []) $ elem-put ! R fullShare ys i r₁ (v₁ ∷ []) b₃ o₃ li $
-        move ! (0 ∷ 6 ∷ 7 ∷ 8 ∷ []) $ closes-slice ! tt R ys (set ys i r₁) (length-set ys i r₁) b₃ o₃ $ fjoin ! $ pureI ! (at-slice R (at-list b₃ o₃ γ₃ (set ys i r₁)) (s₃ ∷ [])) (tt, (tt, tt)) (ap (λ (m : ℕ). sliceVal (b₃, o₃) m ∷ []) (sym (length-set ys i r₁)), subst (Room R) (sym (length-set ys i r₁)) room₃) $ fjoin ! $
+        (qed W [] ∵ nothing ! $ owned ! Be.the-row (Is Be.the-row) (begun-makes 𝓤 H A) r (vr ∷ []) is $ fjoin ! $ nothing ! $ join ! $ frame ! $ done !) (and-then ! (load ! (from ! (stop !)) (look ! 32 refl)) (no-more !)) (λ v₁ r₁ _ e₃ is₁.
+        land ! (from ! (stop !)) (store ! 9 refl (lawful 𝓤 H A W .typed r₁ (v₁ ∷ []) is₁ .0)) $
+        assigns ! (bin ! (load ! (from ! (stop !)) (look ! 33 refl)) (lit ! tt) (step-fits (length ys) i room₃ li)) (from ! (stop !)) (store ! 17 refl (tt, step-fits (length ys) i room₃ li)) $
+        assigns ! (bin ! (load ! (from ! (fld ! refl (stop !))) (look-in ! 39 (sub ! 0 refl (whole !)))) (load ! (from ! (stop !)) (look ! 17 refl)) tt) (from ! (stop !)) (init ! 7 refl (tt, tt)) $
+        rewrite ! 7 (λ (m : ℕ). ‵ (fat fullShare tyPtr l₂₃ 0 (vptr b₃ m))) (sym (place-is bytes o₃ i)) refl $
+        assigns ! (of-opd ! (load ! (from ! (stop !)) (look ! 9 refl))) (from ! (hop ! (look ! 7 refl) (stop !))) (store-raw ! 5 refl (lawful 𝓤 H A W .typed r₁ (v₁ ∷ []) is₁ .0)) $
+        move ! (5 ∷ 6 ∷ []) $ stores-in ! tt R (makes 𝓤 H A) ys i r₁ (v₁ ∷ []) li room₃ is₁ (
         calls-plain-last ! fm accepted-after.ended (accepted-after.clauses 𝓤 H A mem run) by-accepted-after ((tt, tt, tt, (r, tt), (vr ∷ [], tt)), tt) (λ r′ ws. r′ ≡ r .accepted) (λ r ws. id⊢ 𝓤 _)
-        (qed W [] ∵ nothing ! $ owned ! Be.the-row (Is Be.the-row) (begun-makes 𝓤 H A) r (vr ∷ []) is $ fjoin ! $ nothing ! $ join ! $ frame ! $ done !) (and-then ! (load ! (from ! (stop !)) (look ! 33 refl)) (no-more !)) (λ v₂ r₂ _ e₄ is₂.
-        land-last ! (from ! (stop !)) (init ! 22 refl (accepted-lawful 𝓤 H A W .typed r₂ (v₂ ∷ []) is₂ .0)) $
+        (qed W [] ∵ nothing ! $ owned ! Be.the-row (Is Be.the-row) (begun-makes 𝓤 H A) r (vr ∷ []) is $ fjoin ! $ nothing ! $ join ! $ frame ! $ done !) (and-then ! (load ! (from ! (stop !)) (look ! 32 refl)) (no-more !)) (λ v₂ r₂ _ e₄ is₂.
+        land-last ! (from ! (stop !)) (init ! 21 refl (accepted-lawful 𝓤 H A W .typed r₂ (v₂ ∷ []) is₂ .0)) $
         exec ! C Λ _ mir.t-7 (atRet _ Post) $
-        assigns ! (of-opd ! (load ! (from ! (stop !)) (look ! 22 refl))) (from ! (stop !)) (init ! 54 refl (accepted-lawful 𝓤 H A W .typed r₂ (v₂ ∷ []) is₂ .0)) $
-        returns ! (look ! 54 refl) $ forget ! 8 refl $ forget ! 10 refl $ forget ! 12 refl $ forget ! 14 refl $ forget ! 16 refl $ forget ! 18 refl $ forget ! 20 refl $ forget ! 22 refl $ forget ! 24 refl $ forget ! 26 refl $ forget ! 28 refl $ forget ! 30 refl $ forget ! 32 refl $ forget ! 34 refl $ forget ! 36 refl $ forget ! 38 refl $ forget ! 40 refl $ forget ! 42 refl $ forget ! 44 refl $ forget ! 46 refl $ forget ! 48 refl $ forget ! 50 refl $ forget ! 52 refl $ forget ! 54 refl $
-        move ! (54 ∷ 55 ∷ []) $ free1 ! $ move ! (52 ∷ 53 ∷ []) $ free1 ! $ move ! (50 ∷ 51 ∷ []) $ free1 ! $ move ! (48 ∷ 49 ∷ []) $ free1 ! $ move ! (46 ∷ 47 ∷ []) $ free1 ! $ move ! (44 ∷ 45 ∷ []) $ free1 ! $ move ! (42 ∷ 43 ∷ []) $ free1 ! $ move ! (40 ∷ 41 ∷ []) $ free1 ! $ move ! (38 ∷ 39 ∷ []) $ free1 ! $ move ! (36 ∷ 37 ∷ []) $ free1 ! $ move ! (34 ∷ 35 ∷ []) $ free1 ! $ move ! (32 ∷ 33 ∷ []) $ free1 ! $ move ! (30 ∷ 31 ∷ []) $ free1 ! $ move ! (28 ∷ 29 ∷ []) $ free1 ! $ move ! (26 ∷ 27 ∷ []) $ free1 ! $ move ! (24 ∷ 25 ∷ []) $ free1 ! $ move ! (22 ∷ 23 ∷ []) $ free1 ! $ move ! (20 ∷ 21 ∷ []) $ free1 ! $ move ! (18 ∷ 19 ∷ []) $ free1 ! $ move ! (16 ∷ 17 ∷ []) $ free1 ! $ move ! (14 ∷ 15 ∷ []) $ free1 ! $ move ! (12 ∷ 13 ∷ []) $ free1 ! $ move ! (10 ∷ 11 ∷ []) $ free1 ! $ move ! (8 ∷ 9 ∷ []) $ free1 ! $ free0 ! $
-        keep ! (0 ∷ 4 ∷ 2 ∷ 1 ∷ 6 ∷ 5 ∷ []) $ by ! (exits v₂ r₂ (set ys i r₁) (starts r r₁ r₂ p h e₃ e₄ (ep .0) eh e t) (length-set ys i r₁) is₂))))))))
+        assigns ! (of-opd ! (load ! (from ! (stop !)) (look ! 21 refl))) (from ! (stop !)) (init ! 53 refl (accepted-lawful 𝓤 H A W .typed r₂ (v₂ ∷ []) is₂ .0)) $
+        returns ! (look ! 53 refl) $ forget ! 7 refl $ forget ! 9 refl $ forget ! 11 refl $ forget ! 13 refl $ forget ! 15 refl $ forget ! 17 refl $ forget ! 19 refl $ forget ! 21 refl $ forget ! 23 refl $ forget ! 25 refl $ forget ! 27 refl $ forget ! 29 refl $ forget ! 31 refl $ forget ! 33 refl $ forget ! 35 refl $ forget ! 37 refl $ forget ! 39 refl $ forget ! 41 refl $ forget ! 43 refl $ forget ! 45 refl $ forget ! 47 refl $ forget ! 49 refl $ forget ! 51 refl $ forget ! 53 refl $
+        move ! (53 ∷ 54 ∷ []) $ free1 ! $ move ! (51 ∷ 52 ∷ []) $ free1 ! $ move ! (49 ∷ 50 ∷ []) $ free1 ! $ move ! (47 ∷ 48 ∷ []) $ free1 ! $ move ! (45 ∷ 46 ∷ []) $ free1 ! $ move ! (43 ∷ 44 ∷ []) $ free1 ! $ move ! (41 ∷ 42 ∷ []) $ free1 ! $ move ! (39 ∷ 40 ∷ []) $ free1 ! $ move ! (37 ∷ 38 ∷ []) $ free1 ! $ move ! (35 ∷ 36 ∷ []) $ free1 ! $ move ! (33 ∷ 34 ∷ []) $ free1 ! $ move ! (31 ∷ 32 ∷ []) $ free1 ! $ move ! (29 ∷ 30 ∷ []) $ free1 ! $ move ! (27 ∷ 28 ∷ []) $ free1 ! $ move ! (25 ∷ 26 ∷ []) $ free1 ! $ move ! (23 ∷ 24 ∷ []) $ free1 ! $ move ! (21 ∷ 22 ∷ []) $ free1 ! $ move ! (19 ∷ 20 ∷ []) $ free1 ! $ move ! (17 ∷ 18 ∷ []) $ free1 ! $ move ! (15 ∷ 16 ∷ []) $ free1 ! $ move ! (13 ∷ 14 ∷ []) $ free1 ! $ move ! (11 ∷ 12 ∷ []) $ free1 ! $ move ! (9 ∷ 10 ∷ []) $ free1 ! $ move ! (7 ∷ 8 ∷ []) $ free1 ! $ free0 ! $
+        keep ! (0 ∷ 4 ∷ 2 ∷ 1 ∷ 6 ∷ 5 ∷ []) $ by ! (exits v₂ r₂ (set ys i r₁) (starts r r₁ r₂ p h e₃ e₄ (ep .0) eh e t) (length-set ys i r₁) is₂)))))))))
         (λ z.
         calls-plain-last ! fm refuse.ended (refuse.clauses 𝓤 H A mem run) by-refuse ((tt, tt, tt, (k, tt), (vint w64 k ∷ [], tt)), tt) (λ r ws. r ≡ Accepted.Refused k) (λ r ws. id⊢ 𝓤 _)
         (qed W [] ∵ nothing ! $ owned ! u64 (Is u64) (uint-makes 𝓤 H A W w64) k _ (refl, isk .1) $ fjoin ! $ nothing ! $ join ! $ frame ! $ done !) (and-then ! (load ! (from ! (stop !)) (look ! 39 refl)) (no-more !)) (λ v₂ r₂ _ e₄ is₂.

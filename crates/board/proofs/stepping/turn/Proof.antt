@@ -1,6 +1,6 @@
 -- `board::stepping::turn` meets its contract: a walk of its MIR, by hand. The record's cell is taken out of the board and copied, and the copy stepped by value; where it has moved, what it moved to is stored in the cell, which then goes back.
 -- The tables are given up to the callee, at their own lifetimes. Assumes nothing.
-use mathlib.Core.Path.{_≡_, refl, sym, ap, _∙_, subst}
+use mathlib.Core.Path.{_≡_, refl, sym, ap, subst}
 use mathlib.Core.Bool.{Bool, not}
 use Prim.Native.Nat.{ℕ, _<_, _^_}
 use mathlib.Core.List.{List, [], _∷_}
