@@ -56,29 +56,26 @@ fn select_next(
     }
 }
 
-// The left side has too few: right, and its count is passed. At the last step the sum is neither stored nor answered.
+// The left side has too few: right, and its count is passed. At the last step too, where the sum is neither stored nor
+// answered: no step may form a sum past the bounds.
 fn select_right(b: Bounds, j: u64, depth: u64, x: u64, passed: u64, f: Fork) -> Plan
     requires { ⌜ depth + 1 < 18446744073709551616 ⌝ }
     ensures { λ p. ⌜ p ≡ selectRight b j depth x passed f ⌝ }
 {
     let right = f.right;
     let left_behind = f.at_left;
-    if f.last {
-        return Plan::Keep(Next::Done(Answer::Cell(cell_at(x, b.cells))));
+    if !is_within(passed, left_behind.count, b.cells) {
+        return Plan::Damaged;
     }
-    if is_within(passed, left_behind.count, b.cells) {
-        select_next(
-            b,
-            j,
-            depth,
-            x,
-            sum_within(passed, left_behind.count, b.cells),
-            right,
-            false,
-        )
-    } else {
-        Plan::Damaged
-    }
+    select_next(
+        b,
+        j,
+        depth,
+        x,
+        sum_within(passed, left_behind.count, b.cells),
+        right,
+        f.last,
+    )
 }
 
 fn select_seen(b: Bounds, j: u64, depth: u64, x: u64, passed: u64, f: Fork) -> Plan

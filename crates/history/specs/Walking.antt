@@ -229,7 +229,7 @@ module _ {h u most : ℕ} {b : Bounds} (g : Gauge h u most b) (versions : List �
       → passed + versionOf versions (st .version .0) .count ≤ 2 ^ h → leb (j - passed) (fork st .«at_left» .count) ≡ t
       → Walks (versionOf versions) u B h e (Query.Select j)
       (pick t (selectNext b j (st .depth) (2 * x) passed (fork st .left) (lastAt b (st .depth)))
-      (sure (pick (lastAt b (st .depth)) true (leb (passed + fork st .«at_left» .count) (b .cells)))
+      (sure (leb (passed + fork st .«at_left» .count) (b .cells))
       (selectNext b j (st .depth) (2 * x + 1) (passed + fork st .«at_left» .count) (fork st .right) (lastAt b (st .depth)))))
   select-seen j st x p passed e true w xe pl pe lo hi fits t =
       let here : p * 2 ^ suc e ≡ 2 * p * 2 ^ e = sym (first-left p (2 * p) (2 ^ e) (2 ^ suc e) (twice e) refl) in
@@ -243,13 +243,9 @@ module _ {h u most : ℕ} {b : Bounds} (g : Gauge h u most b) (versions : List �
       let l = leb-false (j - passed) (fork st .«at_left» .count) t in
       let over = adds-count energyOf .above (w .whole) in
       let left = shows-sum energyOf (adds-count energyOf) (whole-left energyOf (w .whole)) (shows-left (w .shows)) in
-      rw (sure-is (lastAt b (st .depth)) (passed + fork st .«at_left» .count) (omega arith))
+      rw (le-leb (passed + fork st .«at_left» .count) (b .cells) (omega (arith, g .cells)))
       (select-next j (st .depth) (2 * x + 1) (2 * p + 1) (passed + fork st .«at_left» .count) (fork st .right) e (lastAt b (st .depth)) (w .deep) (last-is (st .depth) e (w .deep)) (whole-right energyOf (w .whole))
       (shows-at here refl (shows-right (w .shows))) (omega arith) (omega arith) (ap (λ (m : ℕ). m + fork st .«at_left» .count) pe ∙ sym left ∙ ap (λ (m : ℕ). sum ones m B) here) (omega arith) (omega arith) (omega arith))
-    where
-      sure-is : (last : Bool) (m : ℕ) → m ≤ 2 ^ h → pick last true (leb m (b .cells)) ≡ true
-      sure-is true m l = refl
-      sure-is false m l = le-leb m (b .cells) (omega (arith, g .cells))
 
   select-step : {e j : ℕ} {st : Standing} {x : NodeNumber} {passed : ℕ} (p : ℕ) → Stands (versionOf versions) u B h e (p * 2 ^ suc e) st
       → x .0 ≡ 2 ^ st .depth + p → p < 2 ^ st .depth → passed ≡ sum ones (p * 2 ^ suc e) B → passed < j → j ≤ passed + versionOf versions (st .version .0) .count

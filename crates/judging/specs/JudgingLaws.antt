@@ -88,7 +88,7 @@ module _ (n w i : ℕ) (nodes versions : List ℕ) (board : List Worker) where
       }
 
   -- then only 1 and 3 are left, which the call on the record gives
-  call-seated : {A : Type 0} (a : After A) → eqb judgedOf 0 ≡ true → checkCall n w i s a ≡ check (allowed n) 1 s (check (roomy n nodes versions) 3 s a)
+  pub call-seated : {A : Type 0} (a : After A) → eqb judgedOf 0 ≡ true → checkCall n w i s a ≡ check (allowed n) 1 s (check (roomy n nodes versions) 3 s a)
   unfolding judgeOf absentOf
   call-seated a e =
       let b = there-by (allowed n) (mannedBy w (length board)) (roomyBy n (length nodes) (length versions)) (ltb i w) e in

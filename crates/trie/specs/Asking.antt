@@ -128,10 +128,10 @@ abbrev pub selectNext : Bounds → ℕ → ℕ → ℕ → ℕ → VersionNumber
 selectNext b j d x passed v last =
     pick last (answers (Answer.Cell (x - b .cells))) (Plan.Keep (goesOn (Phase.Select j (standing (d + 1) v) (record { 0 = x }) passed)))
 
--- the sum is judged where it is stored: not at the last step
+-- the sum is judged also at the last step, where it is neither stored nor answered
 abbrev pub selectRight : Bounds → ℕ → ℕ → ℕ → ℕ → Fork → Plan
 selectRight b j d x passed f =
-    sure (pick (f .last) true (leb (passed + f .«at_left» .count) (b .cells)))
+    sure (leb (passed + f .«at_left» .count) (b .cells))
     (selectNext b j d x (passed + f .«at_left» .count) (f .right) (f .last))
 
 abbrev pub selectSeen : Bounds → ℕ → ℕ → ℕ → ℕ → Seen → Plan

@@ -306,8 +306,11 @@ select-cases =
     ∷ says (sane (selects 1 0 1 0 0)) nine
     ∷ says (sane (selects 1 0 1 2 0)) nine
     ∷ says (sane (selects 1 1 4 2 0)) nine
-    -- not listed: past step 1 a Select of more than N, or one that ends at an unmarked leaf, answers the cell; no sum is stored there
-    ∷ says (two calm root (row 0 0 1 5 0) none′ (selects 9 0 1 1 2)) (answers (cell 1))
+    -- not listed: past step 1 a Select of more than N, or one that ends at an unmarked leaf, answers the cell
+    ∷ says (two calm root (row 0 0 1 5 0) none′ (selects 9 0 1 1 1)) (answers (cell 1))
+    -- going right its sum is judged at the last step too; going left it forms none
+    ∷ says (two calm root (row 0 0 1 5 0) none′ (selects 9 0 1 1 2)) nine
+    ∷ says (two calm root (row 0 0 1 5 0) none′ (selects 3 0 1 1 2)) (answers (cell 0))
     ∷ says4 (four calm4 2 0 4 0 (selects 9 0 1 1 2)) goes
     ∷ says4 (four calm4 3 0 4 0 (selects 9 0 1 1 2)) nine
     ∷ says4 (four calm4 3 0 4 0 (selects 5 0 1 1 2)) goes

@@ -1,0 +1,14 @@
+-- `kitesonnet::promising::left_of` meets its contract.
+-- Assumes nothing.
+use borrow.Author.Tests.{le-leb, lt-leb}
+use Rattle.kitesonnet.proofs.promising.left_of.Statement.{statement}
+use Rattle.kitesonnet.proofs.promising.left_of.Tie as tie
+
+returns : tie.Need-returns
+returns c = simp (le-leb _ _ (c .if1 .taken))
+
+returns-2 : tie.Need-returns-2
+returns-2 c = simp (lt-leb _ _ (c .if1 .left))
+
+pub left-of-spec : {M : Type 1} → statement M
+left-of-spec = tie.close (tie.spec returns returns-2)
