@@ -21,12 +21,12 @@ use Rattle.trie.specs.Values.{valueOf, acceptedOf}
 use Rattle.trie.specs.Opening.{Opened, openTablesOf}
 use Rattle.trie.specs.Starting.{Started, startRecordOf}
 use Rattle.trie.specs.Stepping.{steppedBy, stepRecordOf}
-use Rattle.kitesonnet.specs.declared.operations.Wish.{Wish}
+use Rattle.kitesonnet.specs.declared.operations.MaybeOperation.{MaybeOperation}
 use Rattle.kitesonnet.specs.declared.reading.Record.{Record}
-use Rattle.kitesonnet.specs.Operations.{wishOf}
+use Rattle.kitesonnet.specs.Operations.{operationOf}
 use Rattle.kitesonnet.specs.Seats.{seatsOf, recordAt, workerOf, seatPut}
 use Rattle.kitesonnet.specs.Answers.{answerWords, answerPut, valuePut, energyPut}
-use Rattle.kitesonnet.specs.Calls.{Lent, lent, back, kiteOpenOf, startWished, kiteStartOf, Answered, answered, stepRoomy, kiteStepOf, converted, convertRoomy, kiteEnergyOf}
+use Rattle.kitesonnet.specs.Calls.{Lent, lent, back, kiteOpenOf, startGiven, kiteStartOf, Answered, answered, stepRoomy, kiteStepOf, converted, convertRoomy, kiteEnergyOf}
 use Rattle.judging.specs.Judging.{mannedBy}
 use Rattle.kitesonnet.specs.Promising.{promisedIn}
 use Rattle.kitesonnet.specs.SeatLaws.{seatsRested}
@@ -70,22 +70,22 @@ module _ (n w i kind first second : ℕ) (nodes versions board : List ℕ) where
   abbrev s : Lent
   s = lent nodes versions board
 
-  pub no-wish : (x : Wish) → x ≡ wishOf kind first second → x ≡ Wish.Not → back 10 s ≡ kiteStartOf n w i kind first second s
+  pub no-operation : (x : MaybeOperation) → x ≡ operationOf kind first second → x ≡ MaybeOperation.Not → back 10 s ≡ kiteStartOf n w i kind first second s
   unfolding kiteStartOf
-  no-wish x e g = ap (λ (y : Wish). startWished y n w i s) (sym g ∙ e)
+  no-operation x e g = ap (λ (y : MaybeOperation). startGiven y n w i s) (sym g ∙ e)
 
-  pub start-judged : (x : Wish) (o : Operation) (r : ℕ) → x ≡ wishOf kind first second → x ≡ Wish.Is o → r ≡ judgedIn n w i nodes versions board → (r ≡ 0 → ⊥) → back r s ≡ kiteStartOf n w i kind first second s
+  pub start-judged : (x : MaybeOperation) (o : Operation) (r : ℕ) → x ≡ operationOf kind first second → x ≡ MaybeOperation.Is o → r ≡ judgedIn n w i nodes versions board → (r ≡ 0 → ⊥) → back r s ≡ kiteStartOf n w i kind first second s
   unfolding kiteStartOf
   start-judged x o r e g j h =
-      ap (λ (k : ℕ). back k s) j ∙ start-stays n w i nodes versions board o (ap (λ (k : ℕ). eqb k 0) (sym j) ∙ ne-eqb r 0 h) ∙ ap (λ (y : Wish). startWished y n w i s) (sym g ∙ e)
+      ap (λ (k : ℕ). back k s) j ∙ start-stays n w i nodes versions board o (ap (λ (k : ℕ). eqb k 0) (sym j) ∙ ne-eqb r 0 h) ∙ ap (λ (y : MaybeOperation). startGiven y n w i s) (sym g ∙ e)
 
-  pub start-comes : (x : Wish) (o : Operation) (r : ℕ) (b : Begins) → x ≡ wishOf kind first second → x ≡ Wish.Is o → r ≡ judgedIn n w i nodes versions board → r ≡ 0
+  pub start-comes : (x : MaybeOperation) (o : Operation) (r : ℕ) (b : Begins) → x ≡ operationOf kind first second → x ≡ MaybeOperation.Is o → r ≡ judgedIn n w i nodes versions board → r ≡ 0
       → b ≡ startsIn n w i o nodes versions board
       → begunBack n w i nodes versions board b ≡ kiteStartOf n w i kind first second s
   unfolding kiteStartOf
   start-comes x o r b e g j h q =
       ap (begunBack n w i nodes versions board) q ∙ start-sits n w i nodes versions board o (ap (λ (k : ℕ). eqb k 0) (sym j) ∙ eq-eqb r 0 h)
-      ∙ ap (λ (y : Wish). startWished y n w i s) (sym g ∙ e)
+      ∙ ap (λ (y : MaybeOperation). startGiven y n w i s) (sym g ∙ e)
 
 -- ---- a worker that is judged to sit on the board
 

@@ -7,16 +7,17 @@ use native.Mathlib.Numerals.{add-one}
 use native.Mathlib.Omega.{arith}
 use lib.ListN.{length, getD, take, drop, set, length-drop, drop-of-length-le}
 use lib.Seq.{paste, paste-suc, take-length, length-take-le}
+use Rattle.kitesonnet.specs.Seats.{recordWords}
 
 -- twelve words, copied over twelve others
-pub words-are : (d part : List ℕ) → length d ≡ 12 → length part ≡ 12 → paste d 0 part (length part) ≡ part
+pub words-are : (d part : List ℕ) → length d ≡ recordWords → length part ≡ recordWords → paste d 0 part (length part) ≡ part
 words-are d part e l =
     ap (λ (t : List ℕ). t ++ drop (0 + length part) d) (take-length part) ∙ ap (λ (t : List ℕ). part ++ t) (drop-of-length-le d {i = 0 + length part} (omega (arith, e, l))) ∙ append-nil part
 
-pub words-at : (d numbers : List ℕ) (at k : ℕ) → length d ≡ 12 → k ≡ 12 → at + 12 ≤ length numbers → paste d 0 (take k (drop at numbers)) (length (take k (drop at numbers))) ≡ take 12 (drop at numbers)
+pub words-at : (d numbers : List ℕ) (at k : ℕ) → length d ≡ recordWords → k ≡ recordWords → at + recordWords ≤ length numbers → paste d 0 (take k (drop at numbers)) (length (take k (drop at numbers))) ≡ take recordWords (drop at numbers)
 words-at d numbers at k e z h =
     ap (λ (j : ℕ). paste d 0 (take j (drop at numbers)) (length (take j (drop at numbers)))) z
-    ∙ words-are d (take 12 (drop at numbers)) e (length-take-le 12 (drop at numbers) (omega (arith, h, length-drop at numbers)))
+    ∙ words-are d (take recordWords (drop at numbers)) e (length-take-le recordWords (drop at numbers) (omega (arith, h, length-drop at numbers)))
 
 -- one word more
 pub copy-next : (d : List ℕ) (at : ℕ) (words : List ℕ) (i : ℕ) → at + i < length d → i < length words → set (paste d at words i) (at + i) (getD words i 0) ≡ paste d at words (i + 1)

@@ -13,9 +13,9 @@ use Rattle.trie.specs.declared.Update.{Update}
 use Rattle.trie.specs.declared.Query.{Query}
 use Rattle.trie.specs.declared.Phase.{Phase}
 use Rattle.trie.specs.Choice.{pick}
-use Rattle.kitesonnet.specs.declared.operations.Change.{Change}
-use Rattle.kitesonnet.specs.declared.operations.Question.{Question}
-use Rattle.kitesonnet.specs.Operations.{changeOf, questionOf}
+use Rattle.kitesonnet.specs.declared.operations.MaybeUpdate.{MaybeUpdate}
+use Rattle.kitesonnet.specs.declared.operations.MaybeQuery.{MaybeQuery}
+use Rattle.kitesonnet.specs.Operations.{updateOf, queryOf}
 use Rattle.kitesonnet.specs.declared.reading.Record.{Record}
 use Rattle.kitesonnet.specs.Reading.{allZero, bare, inPhase, standingOf, refreshOf, climbing, climbOf, updateIn, askIn, queryIn, recordOf}
 
@@ -47,35 +47,35 @@ pub bare-test : (t : Bool) {r b v : Bool} → r ≡ b → t && r ≡ v → t && 
 bare-test t e h = ap (λ (x : Bool). t && x) (sym e) ∙ h
 
 module _ (u : Update) (f : List ℕ) where
-  pub climb-in : eqb (getD f 0 0) 3 ≡ true → climbOf u f ≡ updateIn (Change.Is u) f
+  pub climb-in : eqb (getD f 0 0) 3 ≡ true → climbOf u f ≡ updateIn (MaybeUpdate.Is u) f
   unfolding updateIn
   climb-in e = simp e
 
-  pub swap-in : eqb (getD f 0 0) 3 ≡ false → eqb (getD f 0 0) 2 && bare f 5 ≡ true → inPhase (Phase.Swap u (record { 0 = getD f 4 0 })) ≡ updateIn (Change.Is u) f
+  pub swap-in : eqb (getD f 0 0) 3 ≡ false → eqb (getD f 0 0) 2 && bare f 5 ≡ true → inPhase (Phase.Swap u (record { 0 = getD f 4 0 })) ≡ updateIn (MaybeUpdate.Is u) f
   unfolding updateIn
   swap-in e g = simp (e, g)
 
-  pub read-in : eqb (getD f 0 0) 3 ≡ false → eqb (getD f 0 0) 2 && bare f 5 ≡ false → eqb (getD f 0 0) 1 && bare f 4 ≡ true → inPhase (Phase.Read u) ≡ updateIn (Change.Is u) f
+  pub read-in : eqb (getD f 0 0) 3 ≡ false → eqb (getD f 0 0) 2 && bare f 5 ≡ false → eqb (getD f 0 0) 1 && bare f 4 ≡ true → inPhase (Phase.Read u) ≡ updateIn (MaybeUpdate.Is u) f
   unfolding updateIn
   read-in e g h = simp (e, g, h)
 
-  pub none-in : eqb (getD f 0 0) 3 ≡ false → eqb (getD f 0 0) 2 && bare f 5 ≡ false → eqb (getD f 0 0) 1 && bare f 4 ≡ false → Record.Not ≡ updateIn (Change.Is u) f
+  pub none-in : eqb (getD f 0 0) 3 ≡ false → eqb (getD f 0 0) 2 && bare f 5 ≡ false → eqb (getD f 0 0) 1 && bare f 4 ≡ false → Record.Not ≡ updateIn (MaybeUpdate.Is u) f
   unfolding updateIn
   none-in e g h = simp (e, g, h)
 
-pub no-update : (f : List ℕ) → Record.Not ≡ updateIn Change.Not f
+pub no-update : (f : List ℕ) → Record.Not ≡ updateIn MaybeUpdate.Not f
 unfolding updateIn
 no-update f = refl
 
-pub no-ask : (f : List ℕ) → Record.Not ≡ askIn Question.Not f
+pub no-ask : (f : List ℕ) → Record.Not ≡ askIn MaybeQuery.Not f
 unfolding askIn
 no-ask f = refl
 
-pub ask-in : (q : Query) (f : List ℕ) → bare f 3 ≡ true → inPhase (Phase.Ask q) ≡ askIn (Question.Is q) f
+pub ask-in : (q : Query) (f : List ℕ) → bare f 3 ≡ true → inPhase (Phase.Ask q) ≡ askIn (MaybeQuery.Is q) f
 unfolding askIn
 ask-in q f e = simp e
 
-pub ask-not : (q : Query) (f : List ℕ) → bare f 3 ≡ false → Record.Not ≡ askIn (Question.Is q) f
+pub ask-not : (q : Query) (f : List ℕ) → bare f 3 ≡ false → Record.Not ≡ askIn (MaybeQuery.Is q) f
 unfolding askIn
 ask-not q f e = simp e
 
@@ -106,11 +106,11 @@ module _ (f : List ℕ) where
   unfolding recordOf
   not-by e g = simp (e, g)
 
-  pub update-by : eqb (getD f 0 0) 0 ≡ false → leb (getD f 0 0) 3 ≡ true → updateIn (changeOf (getD f 1 0) (getD f 2 0) (getD f 3 0)) f ≡ recordOf f
+  pub update-by : eqb (getD f 0 0) 0 ≡ false → leb (getD f 0 0) 3 ≡ true → updateIn (updateOf (getD f 1 0) (getD f 2 0) (getD f 3 0)) f ≡ recordOf f
   unfolding recordOf
   update-by e g = simp (e, g)
 
-  pub ask-by : eqb (getD f 0 0) 0 ≡ false → leb (getD f 0 0) 3 ≡ false → eqb (getD f 0 0) 4 ≡ true → askIn (questionOf (getD f 1 0) (getD f 2 0)) f ≡ recordOf f
+  pub ask-by : eqb (getD f 0 0) 0 ≡ false → leb (getD f 0 0) 3 ≡ false → eqb (getD f 0 0) 4 ≡ true → askIn (queryOf (getD f 1 0) (getD f 2 0)) f ≡ recordOf f
   unfolding recordOf
   ask-by e g h = simp (e, g, h)
 

@@ -29,12 +29,13 @@ use Rattle.trie.specs.StepLaws.{gives-not, step-refused}
 use Rattle.trie.specs.Calls.{state, After, after, check, checkCall, manned, openOf, startOf, stepAt, stepOf}
 use Rattle.judging.specs.Judging.{mannedBy, judgeOf}
 use Rattle.judging.specs.JudgingLaws.{manned-by, seated, call-refused, call-seated, start-seated, step-seated}
-use Rattle.kitesonnet.specs.declared.operations.Wish.{Wish}
+use Rattle.kitesonnet.specs.declared.operations.MaybeOperation.{MaybeOperation}
 use Rattle.kitesonnet.specs.declared.reading.Record.{Record}
 use Rattle.kitesonnet.specs.Seats.{seatsOf, recordAt, workerOf, said, readable, seatPut}
 use Rattle.kitesonnet.specs.Answers.{coursePut}
-use Rattle.kitesonnet.specs.Calls.{Lent, lent, stateOf, Back, back, returned, writesFirst, writesAt, kiteOpenOf, startDamaged, startSaid, startWished, Answered, answered, answerAfter, stepSaid, stepTold}
-use Rattle.kitesonnet.specs.Promising.{promisedIn, promised-is, promised-damaged}
+use Rattle.kitesonnet.specs.Calls.{Lent, lent, stateOf, Back, back, returned, writesFirst, writesAt, kiteOpenOf, startDamaged, startSaid, startGiven, Answered, answered, answerAfter, stepSaid, stepTold}
+use Rattle.kitesonnet.specs.Promising.{promisedIn}
+use Rattle.kitesonnet.specs.PromisingLaws.{promised-is, promised-damaged}
 use Rattle.kitesonnet.specs.SeatLaws.{said-length, said-at, seatsRested, seats-rest}
 
 -- ---- what the code does with one record
@@ -179,7 +180,7 @@ module _ (n w i : ℕ) (nodes versions board : List ℕ) where
     begun-by false g e = start-lost e g
 
     -- a start that comes to the worker's record
-    pub start-sits : eqb judgedIn 0 ≡ true → startsBy (promisedIn (heightOf n + 1) w board) (workerOf (recordAt board i)) ≡ startWished (Wish.Is o) n w i s
+    pub start-sits : eqb judgedIn 0 ≡ true → startsBy (promisedIn (heightOf n + 1) w board) (workerOf (recordAt board i)) ≡ startGiven (MaybeOperation.Is o) n w i s
     start-sits e = begun-by (readable w board) refl e
 
     refused-by : (b : Bool) → eqb judgedIn 0 ≡ false → back judgedIn s ≡ writesAt i s (startSaid b n w i o (stateOf s))
@@ -188,7 +189,7 @@ module _ (n w i : ℕ) (nodes versions board : List ℕ) where
     refused-by false e = ap (writesAt i s) (sym (call-judged _ e))
 
     -- a start that is refused before
-    pub start-stays : eqb judgedIn 0 ≡ false → back judgedIn s ≡ startWished (Wish.Is o) n w i s
+    pub start-stays : eqb judgedIn 0 ≡ false → back judgedIn s ≡ startGiven (MaybeOperation.Is o) n w i s
     start-stays e = refused-by (readable w board) e
 
   -- ---- step

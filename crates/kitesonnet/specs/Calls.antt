@@ -11,9 +11,9 @@ use Rattle.trie.specs.declared.Operation.{Operation}
 use Rattle.trie.specs.Record.{idle, busy, operationFits}
 use Rattle.trie.specs.Values.{Ok, Course}
 use Rattle.trie.specs.Calls.{State, state, After, after, check, checkCall, openOf, startOf, stepOf}
-use Rattle.kitesonnet.specs.declared.operations.Wish.{Wish}
+use Rattle.kitesonnet.specs.declared.operations.MaybeOperation.{MaybeOperation}
 use Rattle.kitesonnet.specs.declared.reading.Record.{Record}
-use Rattle.kitesonnet.specs.Operations.{wishOf}
+use Rattle.kitesonnet.specs.Operations.{operationOf}
 use Rattle.kitesonnet.specs.Seats.{said, recordAt, readable, seatPut, seatsPut}
 use Rattle.kitesonnet.specs.Answers.{answerWords, coursePut, energyPut}
 
@@ -73,12 +73,12 @@ startSaid true n w i o s = startOf n w i o s
 startSaid false n w i o s = startDamaged n w i o s
 
 -- numbers that are no operation are refused first
-abbrev pub startWished : Wish → ℕ → ℕ → ℕ → Lent → Back
-startWished Wish.Not n w i s = back 10 s
-startWished (Wish.Is o) n w i s = writesAt i s (startSaid (readable w (s .board)) n w i o (stateOf s))
+abbrev pub startGiven : MaybeOperation → ℕ → ℕ → ℕ → Lent → Back
+startGiven MaybeOperation.Not n w i s = back 10 s
+startGiven (MaybeOperation.Is o) n w i s = writesAt i s (startSaid (readable w (s .board)) n w i o (stateOf s))
 
 unfoldable pub kiteStartOf : ℕ → ℕ → ℕ → ℕ → ℕ → ℕ → Lent → Back
-kiteStartOf n w i kind first second s = startWished (wishOf kind first second) n w i s
+kiteStartOf n w i kind first second s = startGiven (operationOf kind first second) n w i s
 
 -- ---- step
 

@@ -7,9 +7,9 @@ use Rattle.trie.specs.declared.Update.{Update}
 use Rattle.trie.specs.declared.Query.{Query}
 use Rattle.trie.specs.declared.Operation.{Operation}
 use Rattle.trie.specs.Choice.{pick}
-use Rattle.kitesonnet.specs.declared.operations.Change.{Change}
-use Rattle.kitesonnet.specs.declared.operations.Question.{Question}
-use Rattle.kitesonnet.specs.declared.operations.Wish.{Wish}
+use Rattle.kitesonnet.specs.declared.operations.MaybeUpdate.{MaybeUpdate}
+use Rattle.kitesonnet.specs.declared.operations.MaybeQuery.{MaybeQuery}
+use Rattle.kitesonnet.specs.declared.operations.MaybeOperation.{MaybeOperation}
 
 -- the kinds of operations
 abbrev pub insertKind : ℕ
@@ -31,25 +31,25 @@ abbrev pub totalKind : ℕ
 totalKind = 6
 
 -- a delete has no level
-unfoldable pub changeOf : ℕ → ℕ → ℕ → Change
-changeOf kind cell level =
-    pick (eqb kind insertKind) (Change.Is (Update.Insert cell (record { 0 = level }))) (pick (eqb kind deleteKind && eqb level 0) (Change.Is (Update.Delete cell)) Change.Not)
+unfoldable pub updateOf : ℕ → ℕ → ℕ → MaybeUpdate
+updateOf kind cell level =
+    pick (eqb kind insertKind) (MaybeUpdate.Is (Update.Insert cell (record { 0 = level }))) (pick (eqb kind deleteKind && eqb level 0) (MaybeUpdate.Is (Update.Delete cell)) MaybeUpdate.Not)
 
 -- a total has no number
-unfoldable pub questionOf : ℕ → ℕ → Question
-questionOf kind number =
-    pick (eqb kind findKind) (Question.Is (Query.Find number))
-    (pick (eqb kind selectKind) (Question.Is (Query.Select number))
-    (pick (eqb kind rankKind) (Question.Is (Query.Rank number))
-    (pick (eqb kind totalKind && eqb number 0) (Question.Is Query.Total) Question.Not)))
+unfoldable pub queryOf : ℕ → ℕ → MaybeQuery
+queryOf kind number =
+    pick (eqb kind findKind) (MaybeQuery.Is (Query.Find number))
+    (pick (eqb kind selectKind) (MaybeQuery.Is (Query.Select number))
+    (pick (eqb kind rankKind) (MaybeQuery.Is (Query.Rank number))
+    (pick (eqb kind totalKind && eqb number 0) (MaybeQuery.Is Query.Total) MaybeQuery.Not)))
 
-abbrev pub changeWish : Change → Wish
-changeWish Change.Not = Wish.Not
-changeWish (Change.Is u) = Wish.Is (Operation.Update u)
+abbrev pub fromUpdate : MaybeUpdate → MaybeOperation
+fromUpdate MaybeUpdate.Not = MaybeOperation.Not
+fromUpdate (MaybeUpdate.Is u) = MaybeOperation.Is (Operation.Update u)
 
-abbrev pub questionWish : Question → Wish
-questionWish Question.Not = Wish.Not
-questionWish (Question.Is q) = Wish.Is (Operation.Query q)
+abbrev pub fromQuery : MaybeQuery → MaybeOperation
+fromQuery MaybeQuery.Not = MaybeOperation.Not
+fromQuery (MaybeQuery.Is q) = MaybeOperation.Is (Operation.Query q)
 
-unfoldable pub wishOf : ℕ → ℕ → ℕ → Wish
-wishOf kind number level = pick (leb kind deleteKind) (changeWish (changeOf kind number level)) (pick (eqb level 0) (questionWish (questionOf kind number)) Wish.Not)
+unfoldable pub operationOf : ℕ → ℕ → ℕ → MaybeOperation
+operationOf kind number level = pick (leb kind deleteKind) (fromUpdate (updateOf kind number level)) (pick (eqb level 0) (fromQuery (queryOf kind number)) MaybeOperation.Not)

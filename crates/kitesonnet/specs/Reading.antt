@@ -11,11 +11,11 @@ use Rattle.trie.specs.declared.Climb.{Climb}
 use Rattle.trie.specs.declared.Standing.{Standing}
 use Rattle.trie.specs.declared.Phase.{Phase}
 use Rattle.trie.specs.Choice.{pick}
-use Rattle.kitesonnet.specs.declared.operations.Change.{Change}
-use Rattle.kitesonnet.specs.declared.operations.Question.{Question}
+use Rattle.kitesonnet.specs.declared.operations.MaybeUpdate.{MaybeUpdate}
+use Rattle.kitesonnet.specs.declared.operations.MaybeQuery.{MaybeQuery}
 use Rattle.kitesonnet.specs.declared.reading.Record.{Record}
 use Rattle.kitesonnet.specs.declared.reading.Refresh.{Refresh}
-use Rattle.kitesonnet.specs.Operations.{changeOf, questionOf}
+use Rattle.kitesonnet.specs.Operations.{updateOf, queryOf}
 use Rattle.kitesonnet.specs.Writing.{idlePhase, readPhase, swapPhase, climbPhase, askPhase, findPhase, rankPhase, selectPhase}
 
 unfoldable pub allZero : List ℕ → Bool
@@ -49,16 +49,16 @@ climbOf u f =
     pick (ltb 1 (getD f 4 0) || ltb 1 (getD f 6 0)) Record.Not
     (climbing (record { update = u; yes = eqb (getD f 4 0) 1; node = record { 0 = getD f 5 0 }; second = eqb (getD f 6 0) 1; made = getD f 7 0 }) (refreshOf (getD f 8 0) (getD f 9 0) (getD f 10 0) (getD f 11 0)))
 
-unfoldable pub updateIn : Change → List ℕ → Record
-updateIn Change.Not f = Record.Not
-updateIn (Change.Is u) f =
+unfoldable pub updateIn : MaybeUpdate → List ℕ → Record
+updateIn MaybeUpdate.Not f = Record.Not
+updateIn (MaybeUpdate.Is u) f =
     pick (eqb (getD f 0 0) climbPhase) (climbOf u f)
     (pick (eqb (getD f 0 0) swapPhase && bare f 5) (inPhase (Phase.Swap u (record { 0 = getD f 4 0 })))
     (pick (eqb (getD f 0 0) readPhase && bare f 4) (inPhase (Phase.Read u)) Record.Not))
 
-unfoldable pub askIn : Question → List ℕ → Record
-askIn Question.Not f = Record.Not
-askIn (Question.Is q) f = pick (bare f 3) (inPhase (Phase.Ask q)) Record.Not
+unfoldable pub askIn : MaybeQuery → List ℕ → Record
+askIn MaybeQuery.Not f = Record.Not
+askIn (MaybeQuery.Is q) f = pick (bare f 3) (inPhase (Phase.Ask q)) Record.Not
 
 unfoldable pub queryIn : List ℕ → Record
 queryIn f =
@@ -69,5 +69,5 @@ queryIn f =
 unfoldable pub recordOf : List ℕ → Record
 recordOf f =
     pick (eqb (getD f 0 0) idlePhase) (pick (bare f 1) (inPhase Phase.Idle) Record.Not)
-    (pick (leb (getD f 0 0) climbPhase) (updateIn (changeOf (getD f 1 0) (getD f 2 0) (getD f 3 0)) f)
-    (pick (eqb (getD f 0 0) askPhase) (askIn (questionOf (getD f 1 0) (getD f 2 0)) f) (queryIn f)))
+    (pick (leb (getD f 0 0) climbPhase) (updateIn (updateOf (getD f 1 0) (getD f 2 0) (getD f 3 0)) f)
+    (pick (eqb (getD f 0 0) askPhase) (askIn (queryOf (getD f 1 0) (getD f 2 0)) f) (queryIn f)))

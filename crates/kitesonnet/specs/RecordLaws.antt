@@ -11,25 +11,25 @@ use Rattle.trie.specs.declared.Phase.{Phase}
 use Rattle.trie.specs.declared.Worker.{Worker}
 use Rattle.trie.specs.Choice.{pick}
 use Rattle.trie.specs.Record.{cellOf, loudnessOf}
-use Rattle.kitesonnet.specs.declared.operations.Change.{Change}
-use Rattle.kitesonnet.specs.declared.operations.Question.{Question}
+use Rattle.kitesonnet.specs.declared.operations.MaybeUpdate.{MaybeUpdate}
+use Rattle.kitesonnet.specs.declared.operations.MaybeQuery.{MaybeQuery}
 use Rattle.kitesonnet.specs.declared.reading.Record.{Record}
 use Rattle.kitesonnet.specs.declared.reading.Refresh.{Refresh}
 use Rattle.kitesonnet.specs.Writing.{bitOf, kindOf, askedOf, numberOf, readOf, nodeReadOf, leftReadOf, rightReadOf, updateWords, climbWords, phaseWords, wordsOf}
-use Rattle.kitesonnet.specs.Operations.{changeOf, questionOf}
+use Rattle.kitesonnet.specs.Operations.{updateOf, queryOf}
 use Rattle.kitesonnet.specs.Reading.{allZero, inPhase, refreshOf, climbing, climbOf, updateIn, askIn, queryIn, recordOf}
 
-change-back : (u : Update) → changeOf (kindOf u) (cellOf u) (loudnessOf u) ≡ Change.Is u
-unfolding changeOf
-change-back (Update.Insert k l) = refl
-change-back (Update.Delete k) = refl
+update-back : (u : Update) → updateOf (kindOf u) (cellOf u) (loudnessOf u) ≡ MaybeUpdate.Is u
+unfolding updateOf
+update-back (Update.Insert k l) = refl
+update-back (Update.Delete k) = refl
 
-question-back : (q : Query) → questionOf (askedOf q) (numberOf q) ≡ Question.Is q
-unfolding questionOf
-question-back (Query.Find k) = refl
-question-back (Query.Select j) = refl
-question-back (Query.Rank k) = refl
-question-back Query.Total = refl
+query-back : (q : Query) → queryOf (askedOf q) (numberOf q) ≡ MaybeQuery.Is q
+unfolding queryOf
+query-back (Query.Find k) = refl
+query-back (Query.Select j) = refl
+query-back (Query.Rank k) = refl
+query-back Query.Total = refl
 
 refresh-back : (h : Held) → refreshOf (readOf h) (nodeReadOf h) (leftReadOf h) (rightReadOf h) ≡ Refresh.Is h
 unfolding refreshOf
@@ -53,10 +53,10 @@ climb-back c h = bits (c .yes) (c .second) (c .update) c (refreshOf (readOf h) (
 phase-back : (p : Phase) → recordOf (phaseWords p) ≡ inPhase p
 unfolding recordOf updateIn askIn queryIn allZero
 phase-back Phase.Idle = refl
-phase-back (Phase.Read u) = ap (λ (x : Change). updateIn x (updateWords 1 u 0)) (change-back u)
-phase-back (Phase.Swap u v) = ap (λ (x : Change). updateIn x (updateWords 2 u (v .0))) (change-back u)
-phase-back (Phase.Refresh c h) = ap (λ (x : Change). updateIn x (climbWords c h)) (change-back (c .update)) ∙ climb-back c h
-phase-back (Phase.Ask q) = ap (λ (x : Question). askIn x (phaseWords (Phase.Ask q))) (question-back q)
+phase-back (Phase.Read u) = ap (λ (x : MaybeUpdate). updateIn x (updateWords 1 u 0)) (update-back u)
+phase-back (Phase.Swap u v) = ap (λ (x : MaybeUpdate). updateIn x (updateWords 2 u (v .0))) (update-back u)
+phase-back (Phase.Refresh c h) = ap (λ (x : MaybeUpdate). updateIn x (climbWords c h)) (update-back (c .update)) ∙ climb-back c h
+phase-back (Phase.Ask q) = ap (λ (x : MaybeQuery). askIn x (phaseWords (Phase.Ask q))) (query-back q)
 phase-back (Phase.Find k s) = refl
 phase-back (Phase.Rank k s c e) = refl
 phase-back (Phase.Select j s x c) = refl

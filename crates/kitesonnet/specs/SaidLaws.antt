@@ -1,4 +1,4 @@
--- The words after a call say the records after it: each call in words is document 01's call on the state that the words say.
+-- Each call in words is document 01's call on the state that the words say: the words after it say the records after it, and it tells the same.
 -- Assumes nothing.
 use mathlib.Core.Path.{_≡_, refl, sym, ap, subst, _∙_}
 use mathlib.Core.Logic.{_≢_}
@@ -28,17 +28,17 @@ use Rattle.trie.specs.Calls.{state, After, after, check, manned, openOf, startO
 use Rattle.trie.specs.CallLaws.{start-refused}
 use Rattle.judging.specs.Judging.{mannedBy, judgeOf}
 use Rattle.judging.specs.JudgingLaws.{manned-by, start-seated, start-refused as start-judged, step-seated, step-refused as step-judged}
-use Rattle.kitesonnet.specs.declared.operations.Wish.{Wish}
+use Rattle.kitesonnet.specs.declared.operations.MaybeOperation.{MaybeOperation}
 use Rattle.kitesonnet.specs.declared.reading.Record.{Record}
-use Rattle.kitesonnet.specs.Operations.{wishOf}
+use Rattle.kitesonnet.specs.Operations.{operationOf}
 use Rattle.kitesonnet.specs.Reading.{recordOf}
 use Rattle.kitesonnet.specs.Writing.{wordsOf}
 use Rattle.kitesonnet.specs.RecordLaws.{record-back}
 use Rattle.kitesonnet.specs.Seats.{recordWords, seatsOf, recordAt, workerOf, said, isRecord, readable, seatPut}
 use Rattle.kitesonnet.specs.SeatLaws.{said-length, at-next, said-at, seatsRested, seats-rest}
 use Rattle.kitesonnet.specs.Answers.{answerWords}
-use Rattle.kitesonnet.specs.Calls.{Lent, lent, stateOf, returned, writesFirst, writesAt, kiteOpenOf, startSaid, startWished, kiteStartOf, stepSaid, stepRoomy, kiteStepOf}
-use Rattle.kitesonnet.specs.CallLaws.{judgedIn, sits, manned-seats}
+use Rattle.kitesonnet.specs.Calls.{Lent, lent, stateOf, returned, writesFirst, writesAt, kiteOpenOf, startSaid, startGiven, kiteStartOf, answerAfter, stepSaid, stepTold, stepRoomy, kiteStepOf}
+use Rattle.kitesonnet.specs.CallLaws.{judgedIn, call-judged, sits, manned-seats}
 
 -- ---- a record in its seat
 
@@ -133,7 +133,7 @@ module _ (board : List ℕ) (i : ℕ) (w : Worker) (h : i < seatsOf board) where
 
 -- ---- words that are records stay records
 
-readable-one : (w : ℕ) (words : List ℕ) (j : ℕ) → readable w words ≡ true → j < w → isRecord (recordAt words j) ≡ true
+pub readable-one : (w : ℕ) (words : List ℕ) (j : ℕ) → readable w words ≡ true → j < w → isRecord (recordAt words j) ≡ true
 unfolding readable
 readable-one zero words j e l = absurd (omega arith)
 readable-one (suc w) words zero e l = and-first (isRecord (recordOf (take recordWords words))) (readable w (drop recordWords words)) e
@@ -150,11 +150,11 @@ module _ (board : List ℕ) (i : ℕ) (v : Worker) (h : i < seatsOf board) where
   put-by j true e k = ap (λ (x : ℕ). isRecord (recordAt (seatPut board i v) x)) (eqb-true j i e) ∙ ap isRecord (put-own board i v h)
   put-by j false e k = ap isRecord (put-other board i v h j (eqb-false j i e)) ∙ k (eqb-false j i e)
 
-  -- so every worker's words are a record after each call, if they were before
+  -- one record written
   pub readable-put : (w : ℕ) → readable w board ≡ true → readable w (seatPut board i v) ≡ true
   readable-put w e = readable-all w (seatPut board i v) (λ j l. put-by j (eqb j i) refl (λ d. readable-one w board j e l))
 
--- and they are after an open
+-- the first workers at rest
 rested-one : (k : ℕ) (board : List ℕ) → k ≤ seatsOf board → (seatsOf (seatsRested k board) ≡ seatsOf board) × ((j : ℕ) → j < k → isRecord (recordAt (seatsRested k board) j) ≡ true)
 unfolding seatsRested
 rested-one zero board l = (refl, λ j m. absurd (omega arith))
@@ -195,7 +195,7 @@ module _ (nodes versions board : List ℕ) where
         ∙ ap (state nodes′ versions′) (said-put board i v h)
 
   module _ (n w i : ℕ) where
-    seats-so : eqb (judgedIn n w i nodes versions board) 0 ≡ true → i < seatsOf board
+    pub seats-so : eqb (judgedIn n w i nodes versions board) 0 ≡ true → i < seatsOf board
     seats-so e = let z = sits n w i nodes versions board e in omega (arith, z .below, z .seats)
 
     judged-so : (b : Bool) → eqb (judgedIn n w i nodes versions board) 0 ≡ b → eqb (judgeOf n w i (length nodes) (length versions) (length (said board))) 0 ≡ b
@@ -216,12 +216,19 @@ module _ (nodes versions board : List ℕ) where
         (λ k g. let q = step-refused n (getD (said board) i idle) nodes versions k g in (ap (λ (x : Stepped). x .nodes) q, ap (λ (x : Stepped). x .versions) q, ap (λ (x : Stepped). x .worker) q)))
     step-by false e = subst (λ (a : After Course). stateOf (writesAt i s a .lent) ≡ a .state) (sym (step-judged n w i nodes versions (said board) (judged-so false e))) refl
 
+    -- a step that is refused before it comes to a record, whatever the words are
+    pub step-stopped : (x : Record) → eqb (judgedIn n w i nodes versions board) 0 ≡ false → stateOf (writesAt i s (stepSaid x n w i (stateOf s)) .lent) ≡ stepOf n w i (stateOf s) .state
+    step-stopped Record.Not e =
+        subst (λ (a : After Course). stateOf (writesAt i s a .lent) ≡ stateOf s) (sym (call-judged n w i nodes versions board (after {A = Course} (refused 9) (stateOf s)) e)) refl
+        ∙ sym (ap (λ (a : After Course). a .state) (step-judged n w i nodes versions (said board) (judged-so false e)))
+    step-stopped (Record.Is r) e = step-by false e
+
     -- where every worker's words are a record, a start in words is the start of what they say
-    pub start-is : (kind first second : ℕ) (o : Operation) → wishOf kind first second ≡ Wish.Is o → readable w board ≡ true
+    pub start-is : (kind first second : ℕ) (o : Operation) → operationOf kind first second ≡ MaybeOperation.Is o → readable w board ≡ true
         → stateOf (kiteStartOf n w i kind first second s .lent) ≡ startOf n w i o (stateOf s) .state
     unfolding kiteStartOf
     start-is kind first second o e g =
-        ap (λ (x : Wish). stateOf (startWished x n w i s .lent)) e ∙ ap (λ (b : Bool). stateOf (writesAt i s (startSaid b n w i o (stateOf s)) .lent)) g
+        ap (λ (x : MaybeOperation). stateOf (startGiven x n w i s .lent)) e ∙ ap (λ (b : Bool). stateOf (writesAt i s (startSaid b n w i o (stateOf s)) .lent)) g
         ∙ start-by o (eqb (judgedIn n w i nodes versions board) 0) refl
 
     -- where the worker's own words are a record, so is a step
@@ -254,3 +261,34 @@ module _ (nodes versions board : List ℕ) where
   pub open-is : (n w : ℕ) → stateOf (kiteOpenOf n w s .lent) ≡ openOf n w (stateOf s) .state
   unfolding kiteOpenOf openOf
   open-is n w = opened-by n w (allowed n) (manned w (said board)) (roomy n nodes versions) (λ e. manned-seats w (seatsOf board) (sym (manned-by w (said board) ∙ ap (mannedBy w) (said-length board)) ∙ e))
+
+-- ---- what the calls tell
+
+-- 0, or the refusal's number
+abbrev pub numberTold : {A : Type 0} → Told A → ℕ
+numberTold (refused number) = number
+numberTold (gives a) = 0
+
+returned-number : {A : Type 0} (t : Told A) (s written : Lent) → returned t s written .number ≡ numberTold t
+returned-number (refused number) s written = refl
+returned-number (gives a) s written = refl
+
+module _ (n w i : ℕ) (s : Lent) where
+  pub open-told : kiteOpenOf n w s .number ≡ numberTold (openOf n w (stateOf s) .told)
+  unfolding kiteOpenOf
+  open-told = returned-number (openOf n w (stateOf s) .told) s _
+
+  pub start-told : (kind first second : ℕ) (o : Operation) → operationOf kind first second ≡ MaybeOperation.Is o → readable w (s .board) ≡ true
+      → kiteStartOf n w i kind first second s .number ≡ numberTold (startOf n w i o (stateOf s) .told)
+  unfolding kiteStartOf
+  start-told kind first second o e g =
+      ap (λ (x : MaybeOperation). startGiven x n w i s .number) e ∙ ap (λ (b : Bool). writesAt i s (startSaid b n w i o (stateOf s)) .number) g
+      ∙ returned-number (startOf n w i o (stateOf s) .told) s _
+
+  pub step-told : (r : Worker) (answer : List ℕ) → recordAt (s .board) i ≡ Record.Is r → leb answerWords (length answer) ≡ true
+      → (kiteStepOf n w i s answer .number ≡ numberTold (stepOf n w i (stateOf s) .told)) × (kiteStepOf n w i s answer .answer ≡ answerAfter (stepOf n w i (stateOf s) .told) answer)
+  unfolding kiteStepOf
+  step-told r answer e g = (
+    ap (λ (b : Bool). stepRoomy b n w i s answer .number) g ∙ ap (λ (x : Record). stepTold i s answer (stepSaid x n w i (stateOf s)) .number) e ∙ returned-number (stepOf n w i (stateOf s) .told) s _,
+    ap (λ (b : Bool). stepRoomy b n w i s answer .answer) g ∙ ap (λ (x : Record). stepTold i s answer (stepSaid x n w i (stateOf s)) .answer) e,
+  )

@@ -23,7 +23,7 @@ seatsOf board = length board / recordWords
 abbrev pub recordAt : List ℕ → ℕ → Record
 recordAt board i = recordOf (take recordWords (drop (recordWords * i) board))
 
--- words that are no record stand for an idle worker here: every call tells them apart before
+-- words that are no record stand for an idle worker, so that 5 is not given for them: 9 is
 abbrev pub workerOf : Record → Worker
 workerOf Record.Not = idle
 workerOf (Record.Is w) = w

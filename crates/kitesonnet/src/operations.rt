@@ -1,7 +1,7 @@
 // The operation of a start, out of its three numbers: a kind and two arguments.
 // A kind that is none, or an argument that the operation does not have and is not 0, is no operation: refusal 10.
 ghost use mathlib.Core.Path.{_≡_};
-ghost use Rattle.kitesonnet.specs.Operations.{changeOf, questionOf, changeWish, questionWish, wishOf};
+ghost use Rattle.kitesonnet.specs.Operations.{updateOf, queryOf, fromUpdate, fromQuery, operationOf};
 use decibel::Level;
 use trie::Operation;
 use trie::Query;
@@ -20,77 +20,77 @@ pub(crate) const RANK_KIND: u64 = 5;
 
 pub(crate) const TOTAL_KIND: u64 = 6;
 
-pub enum Change {
+pub enum MaybeUpdate {
     Not,
     Is(Update),
 }
 
-pub enum Question {
+pub enum MaybeQuery {
     Not,
     Is(Query),
 }
 
-pub enum Wish {
+pub enum MaybeOperation {
     Not,
     Is(Operation),
 }
 
-pub(crate) fn change_of(kind: u64, cell: u64, level: u64) -> Change
-    ensures { λ r. ⌜ r ≡ changeOf kind cell level ⌝ }
+pub(crate) fn update_of(kind: u64, cell: u64, level: u64) -> MaybeUpdate
+    ensures { λ r. ⌜ r ≡ updateOf kind cell level ⌝ }
 {
     if kind == INSERT_KIND {
-        return Change::Is(Update::Insert(cell, Level(level)));
+        return MaybeUpdate::Is(Update::Insert(cell, Level(level)));
     }
     if (kind == DELETE_KIND) & (level == 0) {
-        return Change::Is(Update::Delete(cell));
+        return MaybeUpdate::Is(Update::Delete(cell));
     }
-    Change::Not
+    MaybeUpdate::Not
 }
 
-pub(crate) fn question_of(kind: u64, number: u64) -> Question
-    ensures { λ r. ⌜ r ≡ questionOf kind number ⌝ }
+pub(crate) fn query_of(kind: u64, number: u64) -> MaybeQuery
+    ensures { λ r. ⌜ r ≡ queryOf kind number ⌝ }
 {
     if kind == FIND_KIND {
-        return Question::Is(Query::Find(number));
+        return MaybeQuery::Is(Query::Find(number));
     }
     if kind == SELECT_KIND {
-        return Question::Is(Query::Select(number));
+        return MaybeQuery::Is(Query::Select(number));
     }
     if kind == RANK_KIND {
-        return Question::Is(Query::Rank(number));
+        return MaybeQuery::Is(Query::Rank(number));
     }
     if (kind == TOTAL_KIND) & (number == 0) {
-        return Question::Is(Query::Total);
+        return MaybeQuery::Is(Query::Total);
     }
-    Question::Not
+    MaybeQuery::Not
 }
 
-fn wish_to_change(change: Change) -> Wish
-    ensures { λ r. ⌜ r ≡ changeWish change ⌝ }
+fn from_update(said: MaybeUpdate) -> MaybeOperation
+    ensures { λ r. ⌜ r ≡ fromUpdate said ⌝ }
 {
-    match change {
-        Change::Not => Wish::Not,
-        Change::Is(update) => Wish::Is(Operation::Update(update)),
+    match said {
+        MaybeUpdate::Not => MaybeOperation::Not,
+        MaybeUpdate::Is(update) => MaybeOperation::Is(Operation::Update(update)),
     }
 }
 
-fn wish_to_know(question: Question) -> Wish
-    ensures { λ r. ⌜ r ≡ questionWish question ⌝ }
+fn from_query(said: MaybeQuery) -> MaybeOperation
+    ensures { λ r. ⌜ r ≡ fromQuery said ⌝ }
 {
-    match question {
-        Question::Not => Wish::Not,
-        Question::Is(query) => Wish::Is(Operation::Query(query)),
+    match said {
+        MaybeQuery::Not => MaybeOperation::Not,
+        MaybeQuery::Is(query) => MaybeOperation::Is(Operation::Query(query)),
     }
 }
 
-pub(crate) fn wish_of(kind: u64, number: u64, level: u64) -> Wish
-    ensures { λ r. ⌜ r ≡ wishOf kind number level ⌝ }
+pub(crate) fn operation_of(kind: u64, number: u64, level: u64) -> MaybeOperation
+    ensures { λ r. ⌜ r ≡ operationOf kind number level ⌝ }
 {
     if kind <= DELETE_KIND {
-        return wish_to_change(change_of(kind, number, level));
+        return from_update(update_of(kind, number, level));
     }
     if level == 0 {
-        return wish_to_know(question_of(kind, number));
+        return from_query(query_of(kind, number));
     }
-    Wish::Not
+    MaybeOperation::Not
 }

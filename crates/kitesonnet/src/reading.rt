@@ -3,10 +3,10 @@
 ghost use mathlib.Core.Path.{_≡_};
 ghost use Rattle.kitesonnet.specs.Reading.{bare, inPhase, standingOf, refreshOf, climbing, climbOf, updateIn, askIn, queryIn, recordOf};
 use crate::RECORD_WORDS;
-use crate::operations::Change;
-use crate::operations::Question;
-use crate::operations::change_of;
-use crate::operations::question_of;
+use crate::operations::MaybeQuery;
+use crate::operations::MaybeUpdate;
+use crate::operations::query_of;
+use crate::operations::update_of;
 use decibel::Energy;
 use trie::Climb;
 use trie::Held;
@@ -51,12 +51,12 @@ fn in_phase(phase: Phase) -> Record
 }
 
 // Whether all words from the one at `from` on are 0.
-fn is_bare(f: [u64; RECORD_WORDS], from: usize) -> bool
-    ensures { λ r. ⌜ r ≡ bare f from ⌝ }
+fn is_bare(words: [u64; RECORD_WORDS], from: usize) -> bool
+    ensures { λ r. ⌜ r ≡ bare words from ⌝ }
 {
     let mut i = from;
     while i < RECORD_WORDS {
-        if f[i] != 0 {
+        if words[i] != 0 {
             return false;
         }
         i += 1;
@@ -101,11 +101,11 @@ fn climbing(climb: Climb, refresh: Refresh) -> Record
     }
 }
 
-fn climb_of(update: Update, f: [u64; RECORD_WORDS]) -> Record
-    ensures { λ r. ⌜ r ≡ climbOf update f ⌝ }
+fn climb_of(update: Update, words: [u64; RECORD_WORDS]) -> Record
+    ensures { λ r. ⌜ r ≡ climbOf update words ⌝ }
 {
-    let yes = f[4];
-    let second = f[6];
+    let yes = words[4];
+    let second = words[6];
     if (1 < yes) | (1 < second) {
         return Record::Not;
     }
@@ -113,74 +113,74 @@ fn climb_of(update: Update, f: [u64; RECORD_WORDS]) -> Record
         Climb {
             update: update,
             yes: yes == 1,
-            node: NodeNumber(f[5]),
+            node: NodeNumber(words[5]),
             second: second == 1,
-            made: f[7],
+            made: words[7],
         },
-        refresh_of(f[8], f[9], f[10], f[11]),
+        refresh_of(words[8], words[9], words[10], words[11]),
     )
 }
 
-fn update_in(change: Change, f: [u64; RECORD_WORDS]) -> Record
-    ensures { λ r. ⌜ r ≡ updateIn change f ⌝ }
+fn update_in(said: MaybeUpdate, words: [u64; RECORD_WORDS]) -> Record
+    ensures { λ r. ⌜ r ≡ updateIn said words ⌝ }
 {
-    let Change::Is(update) = change else {
+    let MaybeUpdate::Is(update) = said else {
         return Record::Not;
     };
-    if f[0] == CLIMB_PHASE {
-        return climb_of(update, f);
+    if words[0] == CLIMB_PHASE {
+        return climb_of(update, words);
     }
-    if (f[0] == SWAP_PHASE) & is_bare(f, 5) {
-        return in_phase(Phase::Swap(update, VersionNumber(f[4])));
+    if (words[0] == SWAP_PHASE) & is_bare(words, 5) {
+        return in_phase(Phase::Swap(update, VersionNumber(words[4])));
     }
-    if (f[0] == READ_PHASE) & is_bare(f, 4) {
+    if (words[0] == READ_PHASE) & is_bare(words, 4) {
         return in_phase(Phase::Read(update));
     }
     Record::Not
 }
 
-fn ask_in(question: Question, f: [u64; RECORD_WORDS]) -> Record
-    ensures { λ r. ⌜ r ≡ askIn question f ⌝ }
+fn ask_in(said: MaybeQuery, words: [u64; RECORD_WORDS]) -> Record
+    ensures { λ r. ⌜ r ≡ askIn said words ⌝ }
 {
-    let Question::Is(query) = question else {
+    let MaybeQuery::Is(query) = said else {
         return Record::Not;
     };
-    if is_bare(f, 3) {
+    if is_bare(words, 3) {
         return in_phase(Phase::Ask(query));
     }
     Record::Not
 }
 
-fn query_in(f: [u64; RECORD_WORDS]) -> Record
-    ensures { λ r. ⌜ r ≡ queryIn f ⌝ }
+fn query_in(words: [u64; RECORD_WORDS]) -> Record
+    ensures { λ r. ⌜ r ≡ queryIn words ⌝ }
 {
-    let at = standing(f[2], f[3]);
-    if (f[0] == FIND_PHASE) & is_bare(f, 4) {
-        return in_phase(Phase::Find(f[1], at));
+    let at = standing(words[2], words[3]);
+    if (words[0] == FIND_PHASE) & is_bare(words, 4) {
+        return in_phase(Phase::Find(words[1], at));
     }
-    if (f[0] == RANK_PHASE) & is_bare(f, 6) {
-        return in_phase(Phase::Rank(f[1], at, f[4], Energy(f[5])));
+    if (words[0] == RANK_PHASE) & is_bare(words, 6) {
+        return in_phase(Phase::Rank(words[1], at, words[4], Energy(words[5])));
     }
-    if (f[0] == SELECT_PHASE) & is_bare(f, 6) {
-        return in_phase(Phase::Select(f[1], at, NodeNumber(f[4]), f[5]));
+    if (words[0] == SELECT_PHASE) & is_bare(words, 6) {
+        return in_phase(Phase::Select(words[1], at, NodeNumber(words[4]), words[5]));
     }
     Record::Not
 }
 
-pub(crate) fn record_of(f: [u64; RECORD_WORDS]) -> Record
-    ensures { λ r. ⌜ r ≡ recordOf f ⌝ }
+pub(crate) fn record_of(words: [u64; RECORD_WORDS]) -> Record
+    ensures { λ r. ⌜ r ≡ recordOf words ⌝ }
 {
-    if f[0] == IDLE_PHASE {
-        if is_bare(f, 1) {
+    if words[0] == IDLE_PHASE {
+        if is_bare(words, 1) {
             return in_phase(Phase::Idle);
         }
         return Record::Not;
     }
-    if f[0] <= CLIMB_PHASE {
-        return update_in(change_of(f[1], f[2], f[3]), f);
+    if words[0] <= CLIMB_PHASE {
+        return update_in(update_of(words[1], words[2], words[3]), words);
     }
-    if f[0] == ASK_PHASE {
-        return ask_in(question_of(f[1], f[2]), f);
+    if words[0] == ASK_PHASE {
+        return ask_in(query_of(words[1], words[2]), words);
     }
-    query_in(f)
+    query_in(words)
 }

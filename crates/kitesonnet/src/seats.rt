@@ -25,13 +25,13 @@ fn copy(words: &[u64], table: &mut [u64])
 }
 
 // Twelve words of a record.
-fn words_at(numbers: &[u64], at: usize) -> [u64; RECORD_WORDS]
-    requires { ⌜ at + 12 ≤ length (now numbers) ⌝ }
-    ensures { λ r. ⌜ r ≡ take 12 (drop at (now (numbers .entry))) ⌝ }
+fn words_at(board: &[u64], at: usize) -> [u64; RECORD_WORDS]
+    requires { ⌜ at + recordWords ≤ length (now board) ⌝ }
+    ensures { λ r. ⌜ r ≡ take recordWords (drop at (now (board .entry))) ⌝ }
 {
-    let mut f = [0u64; RECORD_WORDS];
-    copy(&numbers[at..at + RECORD_WORDS], &mut f);
-    f
+    let mut words = [0u64; RECORD_WORDS];
+    copy(&board[at..at + RECORD_WORDS], &mut words);
+    words
 }
 
 // The record of worker i, or that its words are none.
@@ -42,7 +42,7 @@ pub(crate) fn record_at(board: &[u64], i: usize) -> Record
     record_of(words_at(board, RECORD_WORDS * i))
 }
 
-// The worker that a record says; words that are no record stand for an idle one, after they were told apart.
+// The worker that a record says. Words that are no record stand for an idle one, so that 5 is not given for them: 9 is.
 pub(crate) fn worker_of(says: Record) -> Worker
     ensures { λ r. ⌜ r ≡ workerOf says ⌝ }
 {
@@ -54,8 +54,8 @@ pub(crate) fn worker_of(says: Record) -> Worker
 
 // Twelve words, over those from a place on.
 fn put_words(board: &mut [u64], at: usize, words: [u64; RECORD_WORDS])
-    requires { ⌜ at + 12 ≤ length (now board) ⌝ }
-    ensures { λ _. ⌜ now (board .exit) ≡ paste (now (board .entry)) at words 12 ⌝ }
+    requires { ⌜ at + recordWords ≤ length (now board) ⌝ }
+    ensures { λ _. ⌜ now (board .exit) ≡ paste (now (board .entry)) at words recordWords ⌝ }
 {
     let mut i = 0;
     while i < RECORD_WORDS {

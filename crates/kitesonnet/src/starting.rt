@@ -9,8 +9,8 @@ ghost use Rattle.kitesonnet.specs.Seats.{recordWords};
 ghost use Rattle.kitesonnet.specs.Calls.{lent, back, kiteStartOf};
 ghost use Rattle.kitesonnet.specs.CallLaws.{begins, begunIn, startsIn};
 use crate::RECORD_WORDS;
-use crate::operations::Wish;
-use crate::operations::wish_of;
+use crate::operations::MaybeOperation;
+use crate::operations::operation_of;
 use crate::promising::promised_in;
 use crate::seats::put_record;
 use crate::seats::record_at;
@@ -69,7 +69,7 @@ pub extern "C" fn kite_start(
     ensures { λ r. ⌜ back r (lent (now (nodes .entry)) (now (versions .entry)) (now (board .exit)))
         ≡ kiteStartOf n w i kind first second (lent (now (nodes .entry)) (now (versions .entry)) (now (board .entry))) ⌝ }
 {
-    let Wish::Is(o) = wish_of(kind, first, second) else {
+    let MaybeOperation::Is(o) = operation_of(kind, first, second) else {
         return 10;
     };
     let refusal = judge(

@@ -1,7 +1,7 @@
 -- `kitesonnet::promising::join` meets its contract.
 -- Assumes nothing.
 use native.Mathlib.Omega.{arith}
-use Rattle.kitesonnet.specs.Promising.{small-of}
+use Rattle.kitesonnet.specs.PromisingLaws.{small-of}
 use borrow.Author.Needs.{needs}
 use Rattle.kitesonnet.proofs.promising.join.Statement.{statement}
 use Rattle.kitesonnet.proofs.promising.join.Tie as tie

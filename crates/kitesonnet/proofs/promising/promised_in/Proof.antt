@@ -5,7 +5,8 @@ use Prim.Native.Nat.{_*_, _-_, _≤_}
 use native.Mathlib.Omega.{arith}
 use lib.ListN.{drop}
 use Rattle.kitesonnet.specs.Seats.{recordWords}
-use Rattle.kitesonnet.specs.Promising.{owedIn, promisedIn, owed-small, promised-small, promised-none, promised-on, promised-all}
+use Rattle.kitesonnet.specs.Promising.{owedIn, promisedIn}
+use Rattle.kitesonnet.specs.PromisingLaws.{owed-small, promised-small, promised-none, promised-on, promised-all}
 use borrow.Author.Needs.{needs}
 use Rattle.kitesonnet.proofs.promising.promised_in.Statement.{statement}
 use Rattle.kitesonnet.proofs.promising.promised_in.Tie as tie

@@ -28,17 +28,17 @@ returns-2 c = not-by (c .before .before .before .args .t1) (eq-eqb _ _ (c .befor
 array-read-if3 : tie.Need-array-read-if3
 array-read-if3 c = search needs
 
-array-read-change-of : tie.Need-array-read-change-of
-array-read-change-of c = search needs
+array-read-update-of : tie.Need-array-read-update-of
+array-read-update-of c = search needs
 
-array-read-change-of-2 : tie.Need-array-read-change-of-2
-array-read-change-of-2 c = search needs
+array-read-update-of-2 : tie.Need-array-read-update-of-2
+array-read-update-of-2 c = search needs
 
-array-read-change-of-3 : tie.Need-array-read-change-of-3
-array-read-change-of-3 c = search needs
+array-read-update-of-3 : tie.Need-array-read-update-of-3
+array-read-update-of-3 c = search needs
 
-change-of-requires : tie.Need-change-of-requires
-change-of-requires c κs = search needs
+update-of-requires : tie.Need-update-of-requires
+update-of-requires c κs = search needs
 
 update-in-requires : tie.Need-update-in-requires
 update-in-requires c κs = search needs
@@ -46,20 +46,20 @@ update-in-requires c κs = search needs
 returns-3 : tie.Need-returns-3
 returns-3 c =
     let given = c .before .before .before .before .args in
-    c .update-in .ensures ∙ ap (λ x. updateIn x (given .t1)) (c .before .change-of .ensures) ∙ update-by (given .t1) (ne-eqb _ _ (c .before .before .before .if1 .left))
+    c .update-in .ensures ∙ ap (λ x. updateIn x (given .t1)) (c .before .update-of .ensures) ∙ update-by (given .t1) (ne-eqb _ _ (c .before .before .before .if1 .left))
     (le-leb _ _ (c .before .before .if3 .taken))
 
 array-read-if4 : tie.Need-array-read-if4
 array-read-if4 c = search needs
 
-array-read-question-of : tie.Need-array-read-question-of
-array-read-question-of c = search needs
+array-read-query-of : tie.Need-array-read-query-of
+array-read-query-of c = search needs
 
-array-read-question-of-2 : tie.Need-array-read-question-of-2
-array-read-question-of-2 c = search needs
+array-read-query-of-2 : tie.Need-array-read-query-of-2
+array-read-query-of-2 c = search needs
 
-question-of-requires : tie.Need-question-of-requires
-question-of-requires c κs = search needs
+query-of-requires : tie.Need-query-of-requires
+query-of-requires c κs = search needs
 
 ask-in-requires : tie.Need-ask-in-requires
 ask-in-requires c κs = search needs
@@ -67,7 +67,7 @@ ask-in-requires c κs = search needs
 returns-4 : tie.Need-returns-4
 returns-4 c =
     let given = c .before .before .before .before .before .args in
-    c .ask-in .ensures ∙ ap (λ x. askIn x (given .t1)) (c .before .question-of .ensures) ∙ ask-by (given .t1) (ne-eqb _ _ (c .before .before .before .before .if1 .left))
+    c .ask-in .ensures ∙ ap (λ x. askIn x (given .t1)) (c .before .query-of .ensures) ∙ ask-by (given .t1) (ne-eqb _ _ (c .before .before .before .before .if1 .left))
     (lt-leb _ _ (c .before .before .before .if3 .left)) (eq-eqb _ _ (c .before .before .if4 .taken))
 
 query-in-requires : tie.Need-query-in-requires
@@ -88,16 +88,16 @@ record-of-spec =
     returns
     returns-2
     array-read-if3
-    array-read-change-of
-    array-read-change-of-2
-    array-read-change-of-3
-    change-of-requires
+    array-read-update-of
+    array-read-update-of-2
+    array-read-update-of-3
+    update-of-requires
     update-in-requires
     returns-3
     array-read-if4
-    array-read-question-of
-    array-read-question-of-2
-    question-of-requires
+    array-read-query-of
+    array-read-query-of-2
+    query-of-requires
     ask-in-requires
     returns-4
     query-in-requires

@@ -10,8 +10,8 @@ use borrow.Author.Needs.{needs}
 use Rattle.kitesonnet.proofs.reading.update_in.Statement.{statement}
 use Rattle.kitesonnet.proofs.reading.update_in.Tie as tie
 
-enum-known-change : tie.Need-enum-known-change
-enum-known-change c = search needs
+enum-known-said : tie.Need-enum-known-said
+enum-known-said c = search needs
 
 enum-told : tie.Need-enum-told
 enum-told c = search needs
@@ -29,7 +29,7 @@ returns-2 : tie.Need-returns-2
 returns-2 c =
     let given = c .before .before .before .before .before .args in
     c .climb-of .ensures ∙ climb-in _ (given .t2) (eq-eqb _ _ (c .before .if1 .taken)) ∙ ap (λ x. updateIn x (given .t2))
-    (sym (c .before .before .before .change .given .1))
+    (sym (c .before .before .before .said .given .1))
 
 array-read-if2 : tie.Need-array-read-if2
 array-read-if2 c = search needs
@@ -46,9 +46,9 @@ in-phase-requires c κs = search needs
 returns-3 : tie.Need-returns-3
 returns-3 c =
     let given = c .before .before .before .before .before .before .before .args in
-    let change = c .before .before .before .before .before .change in
+    let said = c .before .before .before .before .before .said in
     c .in-phase .ensures ∙ swap-in _ (given .t2) (ne-eqb _ _ (c .before .before .before .if1 .left))
-    (bare-test (eqb (getD (given .t2) 0 0) 2) (c .before .before .is-bare .ensures) (c .before .if2 .taken)) ∙ ap (λ x. updateIn x (given .t2)) (sym (change .given .1))
+    (bare-test (eqb (getD (given .t2) 0 0) 2) (c .before .before .is-bare .ensures) (c .before .if2 .taken)) ∙ ap (λ x. updateIn x (given .t2)) (sym (said .given .1))
 
 array-read-if3 : tie.Need-array-read-if3
 array-read-if3 c = search needs
@@ -62,25 +62,25 @@ in-phase-requires-2 c κs = search needs
 returns-4 : tie.Need-returns-4
 returns-4 c =
     let given = c .before .before .before .before .before .before .before .before .before .args in
-    let change = c .before .before .before .before .before .before .before .change in
+    let said = c .before .before .before .before .before .before .before .said in
     let if1 = c .before .before .before .before .before .if1 in
     c .in-phase2 .ensures ∙ read-in _ (given .t2) (ne-eqb _ _ (if1 .left))
     (bare-test (eqb (getD (given .t2) 0 0) 2) (c .before .before .before .before .is-bare .ensures) (c .before .before .before .if2 .left))
-    (bare-test (eqb (getD (given .t2) 0 0) 1) (c .before .before .is-bare2 .ensures) (c .before .if3 .taken)) ∙ ap (λ x. updateIn x (given .t2)) (sym (change .given .1))
+    (bare-test (eqb (getD (given .t2) 0 0) 1) (c .before .before .is-bare2 .ensures) (c .before .if3 .taken)) ∙ ap (λ x. updateIn x (given .t2)) (sym (said .given .1))
 
 returns-5 : tie.Need-returns-5
 returns-5 c =
     let given = c .before .before .before .before .before .before .before .before .args in
-    let change = c .before .before .before .before .before .before .change in
+    let said = c .before .before .before .before .before .before .said in
     none-in _ (given .t2) (ne-eqb _ _ (c .before .before .before .before .if1 .left))
     (bare-test (eqb (getD (given .t2) 0 0) 2) (c .before .before .before .is-bare .ensures) (c .before .before .if2 .left))
-    (bare-test (eqb (getD (given .t2) 0 0) 1) (c .before .is-bare2 .ensures) (c .if3 .left)) ∙ ap (λ x. updateIn x (given .t2)) (sym (change .given .1))
+    (bare-test (eqb (getD (given .t2) 0 0) 1) (c .before .is-bare2 .ensures) (c .if3 .left)) ∙ ap (λ x. updateIn x (given .t2)) (sym (said .given .1))
 
 pub update-in-spec : {M : Type 1} → statement M
 update-in-spec =
     tie.close
     (tie.spec
-    enum-known-change
+    enum-known-said
     enum-told
     returns
     array-read-if1

@@ -34,7 +34,7 @@ returns : tie.Need-returns
 returns c =
     let given = c .before .before .before .before .before .args in
     let asked = c .before .before .before .before .before .pre in
-    c .before .copy .ensures ∙ words-at (replicate 12 0) (given .numbers .now) (given .at) (given .at + 12 - given .at) (search needs) (omega arith) (asked)
+    c .before .copy .ensures ∙ words-at (replicate 12 0) (given .board .now) (given .at) (given .at + 12 - given .at) (search needs) (omega arith) (asked)
 
 pub words-at-spec : {M : Type 1} → statement M
 words-at-spec =
