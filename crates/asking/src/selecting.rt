@@ -20,6 +20,7 @@ use trie::Phase;
 use trie::Plan;
 use trie::Seen;
 use trie::Standing;
+use trie::TALLEST;
 use trie::VersionNumber;
 
 // The cell of a leaf's node.
@@ -94,7 +95,7 @@ fn select_seen(b: Bounds, j: u64, depth: u64, x: u64, passed: u64, f: Fork) -> P
 pub fn select(b: Bounds, j: u64, s: Standing, x: NodeNumber, passed: u64, versions: &[u64]) -> Plan
     ensures { λ p. ⌜ p ≡ sure (leb (b .height) tallest) (selectOf b j s x passed (now (versions .entry))) ⌝ }
 {
-    if 12 < b.height {
+    if TALLEST < b.height {
         return Plan::Damaged;
     }
     let depth = s.depth;

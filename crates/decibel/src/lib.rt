@@ -15,6 +15,11 @@ pub enum Converted {
     Is(Energy),
 }
 
+// The highest level that a sounder gives, and the energy of a cell at it, which no cell passes.
+pub const LOUDEST: u64 = 60;
+
+pub const CELL_ENERGY: u64 = 1000000000;
+
 const ENERGIES: [u64; 61] = [
     1000,
     1258,
@@ -84,7 +89,7 @@ pub fn convert(level: Level) -> Converted
     ensures { λ r. ⌜ toldOf r ≡ convertOf (level .0) ⌝ }
 {
     let decibels = level.0;
-    if 60 < decibels {
+    if LOUDEST < decibels {
         return Converted::TooLoud;
     }
     let at = decibels as usize;

@@ -4,18 +4,25 @@ ghost use mathlib.Core.Path.{_≡_};
 ghost use Prim.Native.Nat.{_≤_};
 ghost use Rattle.trie.specs.Size.{mostCells};
 ghost use Rattle.judging.specs.Judging.{mannedBy, roomBy, roomyBy, absentOf, judgeOf};
+use trie::MOST_VERSIONS;
+use trie::MOST_WORKERS;
+use trie::VERSION_WORDS;
 
 pub fn is_manned(w: u64, seats: usize) -> bool
     ensures { λ r. ⌜ r ≡ mannedBy w seats ⌝ }
 {
-    ((1 <= w) & (w <= 16)) & (w <= seats as u64)
+    ((1 <= w) & (w <= MOST_WORKERS)) & (w <= seats as u64)
 }
 
 fn room(versions: usize) -> u64
     ensures { λ r. ⌜ r ≡ roomBy versions ⌝ }
 {
-    let whole = versions as u64 / 5;
-    if whole <= 1000000 { whole } else { 1000000 }
+    let whole = versions as u64 / VERSION_WORDS;
+    if whole <= MOST_VERSIONS {
+        whole
+    } else {
+        MOST_VERSIONS
+    }
 }
 
 fn is_roomy(n: u64, nodes: usize, versions: usize) -> bool

@@ -20,6 +20,7 @@ use tables::word;
 use trie::Bounds;
 use trie::Climb;
 use trie::Held;
+use trie::MOST_CELLS;
 use trie::Next;
 use trie::NodeNumber;
 use trie::Phase;
@@ -110,7 +111,7 @@ pub fn read(b: Bounds, u: Update, nodes: &[u64], versions: &[u64]) -> Plan
     ensures { λ p. ⌜ p ≡ sure (leb (b .cells) mostCells) (readOf b u (now (nodes .entry)) (now (versions .entry))) ⌝ }
 {
     let n = b.cells;
-    if 4096 < n {
+    if MOST_CELLS < n {
         return Plan::Damaged;
     }
     if !update_fits(n, u) {
@@ -129,7 +130,7 @@ pub fn swap(b: Bounds, u: Update, v: VersionNumber, nodes: &[u64], versions: &[u
     ensures { λ p. ⌜ p ≡ sure (leb (b .cells) mostCells) (swapOf b u v (now (nodes .entry)) (now (versions .entry))) ⌝ }
 {
     let n = b.cells;
-    if 4096 < n {
+    if MOST_CELLS < n {
         return Plan::Damaged;
     }
     if !update_fits(n, u) {

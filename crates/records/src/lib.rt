@@ -7,8 +7,10 @@ ghost use lib.Dec.{leb};
 ghost use Rattle.trie.specs.Size.{mostCells};
 ghost use Rattle.records.specs.Phases.{updating};
 ghost use Rattle.trie.specs.Record.{loudnessOf, idle, busy, cellOf, updateFits, queryFits, operationFits, above, climbFits};
+use decibel::LOUDEST;
 use trie::Bounds;
 use trie::Climb;
+use trie::MOST_CELLS;
 use trie::Operation;
 use trie::Phase;
 use trie::Query;
@@ -59,7 +61,7 @@ fn loudness(u: Update) -> u64
 pub fn update_fits(n: u64, u: Update) -> bool
     ensures { λ r. ⌜ r ≡ updateFits n u ⌝ }
 {
-    (cell(u) < n) & (loudness(u) <= 60)
+    (cell(u) < n) & (loudness(u) <= LOUDEST)
 }
 
 pub fn query_fits(n: u64, q: Query) -> bool
@@ -99,7 +101,7 @@ pub fn climb_fits(b: Bounds, c: Climb) -> bool
     let update = c.update;
     let node = c.node;
     let n = b.cells;
-    if 4096 < n {
+    if MOST_CELLS < n {
         return false;
     }
     if update_fits(n, update) {

@@ -6,11 +6,14 @@ ghost use lib.Dec.{leb};
 ghost use Rattle.trie.specs.Choice.{pick};
 ghost use Rattle.trie.specs.Size.{mostCells};
 ghost use Rattle.trie.specs.Sound.{boundsOf, usedSound, numbered, leafSound, innerSound, soundAt, soundIn};
+use decibel::CELL_ENERGY;
+use decibel::LOUDEST;
 use tables::height;
 use tables::load;
 use tables::room;
 use tables::word;
 use trie::Bounds;
+use trie::MOST_CELLS;
 use trie::Version;
 use trie::VersionNumber;
 
@@ -19,7 +22,7 @@ fn within_a_tree(n: u64) -> u64
     ensures { λ r. ⌜ r ≡ pick (leb n mostCells) n 0 ⌝ }
     ensures { λ r. ⌜ r ≤ mostCells ⌝ }
 {
-    if n <= 4096 { n } else { 0 }
+    if n <= MOST_CELLS { n } else { 0 }
 }
 
 // Where no tree has n cells these are the bounds of none.
@@ -31,7 +34,7 @@ pub fn bounds(n: u64, nodes: &[u64], versions: &[u64]) -> Bounds
     Bounds {
         cells: cells,
         height: tall,
-        energy: cells * 1000000000,
+        energy: cells * CELL_ENERGY,
         share: tall + 1,
         used: word(nodes, 0),
         room: room(versions),
@@ -53,7 +56,7 @@ fn is_leaf(r: Version) -> bool
         return false;
     }
     let bare = (r.left.0 == 0) & (r.right.0 == 0);
-    bare & ((r.energy.0 <= count * 1000000000) & (r.level.0 <= count * 60))
+    bare & ((r.energy.0 <= count * CELL_ENERGY) & (r.level.0 <= count * LOUDEST))
 }
 
 fn is_inner(b: Bounds, r: Version) -> bool

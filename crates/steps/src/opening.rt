@@ -9,6 +9,7 @@ use tables::is_allowed;
 use tables::is_roomy;
 use tables::put;
 use trie::Accepted;
+use trie::VERSION_WORDS;
 
 fn first_node(n: u64, x: u64) -> u64
     requires { ⌜ (1 ≤ n) × (n ≤ mostCells) ⌝ }
@@ -21,8 +22,8 @@ fn first_word(n: u64, i: u64) -> u64
     requires { ⌜ n ≤ mostCells ⌝ }
     ensures { λ r. ⌜ r ≡ firstWord n i ⌝ }
 {
-    let x = i / 5 + 1;
-    let word = i % 5;
+    let x = i / VERSION_WORDS + 1;
+    let word = i % VERSION_WORDS;
     if n <= x {
         return 0;
     }
@@ -45,7 +46,7 @@ fn fill_versions(n: u64, versions: &mut [u64])
     requires { ⌜ (1 ≤ n) × (n ≤ mostCells) ⌝ }
     ensures { λ _. ⌜ now (versions .exit) ≡ openVersions n (now (versions .entry)) ⌝ }
 {
-    let end = 5 * (2 * n - 1);
+    let end = VERSION_WORDS * (2 * n - 1);
     let mut i = 0;
     while i < end {
         put(versions, i, first_word(n, i));

@@ -3,11 +3,12 @@
 ghost use mathlib.Core.Path.{_≡_};
 ghost use Prim.Native.Nat.{_/_, _^_};
 ghost use Rattle.trie.specs.Size.{allowed, heightOf};
+use trie::MOST_CELLS;
 
 pub fn is_allowed(n: u64) -> bool
     ensures { λ r. ⌜ r ≡ allowed n ⌝ }
 {
-    (u64::count_ones(n) == 1) & ((2 <= n) & (n <= 4096))
+    (u64::count_ones(n) == 1) & ((2 <= n) & (n <= MOST_CELLS))
 }
 
 pub fn height(n: u64) -> u64

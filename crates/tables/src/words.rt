@@ -5,6 +5,8 @@ ghost use lib.ListN.{getD, set};
 ghost use Rattle.trie.specs.Tables.{version, roomOf, versionAt, versionPut, roomy};
 use decibel::Energy;
 use decibel::Level;
+use trie::MOST_VERSIONS;
+use trie::VERSION_WORDS;
 use trie::Version;
 use trie::VersionNumber;
 
@@ -44,10 +46,10 @@ pub fn load(versions: &[u64], v: VersionNumber) -> Version
     if number < 1 {
         return unmarked();
     }
-    if length / 5 < number {
+    if length / VERSION_WORDS < number {
         return unmarked();
     }
-    let at = (5 * (number - 1)) as usize;
+    let at = (VERSION_WORDS * (number - 1)) as usize;
     Version {
         left: VersionNumber(versions[at]),
         right: VersionNumber(versions[at + 1]),
@@ -65,10 +67,10 @@ pub fn store(versions: &mut [u64], v: VersionNumber, r: Version)
     if number < 1 {
         return;
     }
-    if length / 5 < number {
+    if length / VERSION_WORDS < number {
         return;
     }
-    let at = (5 * (number - 1)) as usize;
+    let at = (VERSION_WORDS * (number - 1)) as usize;
     versions[at] = r.left.0;
     versions[at + 1] = r.right.0;
     versions[at + 2] = r.count;
@@ -80,8 +82,12 @@ pub fn store(versions: &mut [u64], v: VersionNumber, r: Version)
 pub fn room(versions: &[u64]) -> u64
     ensures { λ r. ⌜ r ≡ roomOf (now (versions .entry)) ⌝ }
 {
-    let whole = (versions.len() as u64) / 5;
-    if whole <= 1000000 { whole } else { 1000000 }
+    let whole = (versions.len() as u64) / VERSION_WORDS;
+    if whole <= MOST_VERSIONS {
+        whole
+    } else {
+        MOST_VERSIONS
+    }
 }
 
 // Twice n is never formed: it may be past the numbers.

@@ -4,6 +4,17 @@
 use decibel::Energy;
 use decibel::Level;
 
+// The most cells of a ping, the height of their tree, the most workers, the most versions, and the words of one.
+pub const MOST_CELLS: u64 = 4096;
+
+pub const TALLEST: u64 = 12;
+
+pub const MOST_WORKERS: u64 = 16;
+
+pub const MOST_VERSIONS: u64 = 1000000;
+
+pub const VERSION_WORDS: u64 = 5;
+
 // The root is 1, the children of x are 2x and 2x + 1, and cell k is node N + k.
 pub struct NodeNumber(pub u64);
 
