@@ -30,17 +30,17 @@ const SEED: u64 = 1;
 /// The goal for the largest size over the smallest.
 const GOAL: f64 = 1.3;
 
-/// What a history may make besides the versions that it opens with. All tables together stay within a second-level cache.
+/// What a history may make besides the versions that it opens with. All tables together stay within a processor's second cache.
 const FURTHER_VERSIONS: u64 = 4_096;
 /// A worker has the processor for one step up to so many.
 const MOST_STEPS_A_TURN: u64 = 3;
 
 /// The places of those courses that the ratios compare.
-const SMALLEST: usize = 0;
-const MIDDLE: usize = 5;
-const LARGEST: usize = 11;
-const ONE_WORKER: usize = 12;
-const MOST_WORKERS: usize = 15;
+const PLACE_OF_SMALLEST: usize = 0;
+const PLACE_OF_MIDDLE: usize = 5;
+const PLACE_OF_LARGEST: usize = 11;
+const PLACE_OF_ONE_WORKER: usize = 12;
+const PLACE_OF_SIXTEEN_WORKERS: usize = 15;
 /// Cells and workers of each history: all sizes with four workers, then the other numbers of workers at one size.
 const COURSES: [(u64, u64); 16] = [
     (2, 4), (4, 4), (8, 4), (16, 4), (32, 4), (64, 4), (128, 4), (256, 4), (512, 4), (1024, 4), (2048, 4), (4096, 4),
@@ -623,7 +623,7 @@ const KINDS: [&str; 10] = [
 /// The mean nanoseconds of each kind of step.
 type ByKind = [f64; KINDS.len()];
 
-/// A tree of twelve levels has another mix of kinds than one of a single level. Only a clock around every step tells the kinds
+/// A tree of height twelve has another mix of kinds than one of height one. Only a clock around every step tells the kinds
 /// apart in their own surroundings; what the clock itself takes is told by the same replay without the steps, and taken off. The
 /// processor works on while it reads a clock, so these figures are to be held to one another and not to those of whole histories.
 #[derive(Default)]
@@ -722,7 +722,7 @@ fn print_ratio(name: &str, ratio: Figure) {
 }
 
 fn print_ratios(courses: &[Course]) {
-    let [small, middle, large] = [SMALLEST, MIDDLE, LARGEST].map(|place| &courses[place]);
+    let [small, middle, large] = [PLACE_OF_SMALLEST, PLACE_OF_MIDDLE, PLACE_OF_LARGEST].map(|place| &courses[place]);
     println!();
     println!("ratios, of the best and of the medians");
     for course in [small, middle, large] {
@@ -731,8 +731,8 @@ fn print_ratios(courses: &[Course]) {
         print_ratio(&format!("a step, library over independent, N = {cells}"), step.over(course.independent_step()));
         print_ratio(&format!("an operation, library over locked book, N = {cells}"), operation.over(course.book_operation()));
     }
-    let [one, most] = [ONE_WORKER, MOST_WORKERS].map(|place| courses[place].library_step());
-    print_ratio("a step, 16 workers over 1", most.over(one));
+    let [one, sixteen] = [PLACE_OF_ONE_WORKER, PLACE_OF_SIXTEEN_WORKERS].map(|place| courses[place].library_step());
+    print_ratio("a step, 16 workers over 1", sixteen.over(one));
     let [in_small, in_large] = [small, large].map(|course| course.by_kind.as_in(&middle.schedule));
     print_ratio("a step, N = 4096 over N = 2, kinds of steps as at N = 64", in_large.over(in_small));
     print_ratio("a step, N = 4096 over N = 2 (goal: at most 1.3)", large.library_step().over(small.library_step()));
@@ -741,10 +741,10 @@ fn print_ratios(courses: &[Course]) {
 fn measure(rounds: usize) {
     let mut courses: Vec<Course> = COURSES.into_iter().map(Course::new).collect();
     courses.iter_mut().for_each(Course::check);
-    [SMALLEST, MIDDLE, LARGEST].iter().for_each(|&place| agree_with_book(COURSES[place].0));
+    [PLACE_OF_SMALLEST, PLACE_OF_MIDDLE, PLACE_OF_LARGEST].iter().for_each(|&place| agree_with_book(COURSES[place].0));
     (0..rounds).for_each(|_| courses.iter_mut().for_each(Course::add_round));
     print_courses(&courses);
-    let [small, large] = [SMALLEST, LARGEST].map(|place| &courses[place]);
+    let [small, large] = [PLACE_OF_SMALLEST, PLACE_OF_LARGEST].map(|place| &courses[place]);
     if large.library_step().over(small.library_step()).median > GOAL {
         print_kinds(small, large);
     }

@@ -34,13 +34,15 @@ extern "C" {
 
 /*
  * Sizes of the rows, in words of 64 bits.
- * The node table of a tree of so many cells; the version table for so many versions; the board of so many workers. Rows may be
- * longer: what lies beyond is neither read nor written. A tree opens with 2 * cells - 1 versions, and an update makes at most
- * one for each level of the tree and one more; versions are not used again, so the version table is what runs out.
+ * The node table of a tree of so many cells; the version table for so many versions; the board of so many workers. A node
+ * table or a board may be longer: what lies beyond is neither read nor written. Of a version table every whole version is used,
+ * up to KITE_MOST_VERSIONS.
+ * Bounds are told by h, the height of the tree, which has 2 to the power h cells. A tree opens with 2 * cells - 1 versions, and
+ * an update makes at most 1 + h. Versions are not used again, so the version table is what runs out.
  */
-#define KITE_NODE_WORDS(cells) (2 * (cells))
-#define KITE_VERSION_WORDS(versions) (5 * (versions))
-#define KITE_BOARD_WORDS(workers) (KITE_RECORD_WORDS * (workers))
+#define KITE_NODE_WORDS(cells) (2 * (size_t)(cells))
+#define KITE_VERSION_WORDS(versions) (5 * (size_t)(versions))
+#define KITE_BOARD_WORDS(workers) (KITE_RECORD_WORDS * (size_t)(workers))
 #define KITE_RECORD_WORDS 12
 #define KITE_ANSWER_WORDS 3
 
@@ -98,8 +100,8 @@ uint64_t kite_start(uint64_t cells, uint64_t workers, uint64_t worker,
 
 /*
  * Takes a worker's operation one step further, and writes the answer's three words: KITE_ON until the last step, then the
- * operation's own answer, after which the worker is idle again. With h levels in the tree, an update answers within 2 + 8h
- * steps of its worker and a query within 1 + h, whatever other workers do.
+ * operation's own answer, after which the worker is idle again. An update answers within 2 + 8h steps of its own worker and a
+ * query within 1 + h, whatever other workers do.
  * Refusals, the first that fits: 20, 1, 2, 3, 4, 6, 9. It is 9 too where the worker's words are no record.
  */
 uint64_t kite_step(uint64_t cells, uint64_t workers, uint64_t worker,

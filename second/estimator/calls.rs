@@ -1,4 +1,4 @@
-//! The four calls on words, with all their refusals in the order that the page gives.
+//! The four calls on words, with all their refusals: 1 to 9 in the page's order, and 10 and 20 before them, as docs/WORDS.md has it.
 //! Each call has a judged form that tells the refusal with its clause, and the form of the trait that tells its number.
 
 use super::conversion::{energy_of, Level};
@@ -10,7 +10,7 @@ use super::Calls;
 
 pub const MOST_WORKERS: u64 = 16;
 
-/// The estimator written from the page.
+/// The estimator written here.
 pub struct Written;
 
 /// Refusals 1 and 2.

@@ -10,7 +10,7 @@ use super::record::{read, RECORD_WORDS};
 use super::refusal::Refusal;
 use super::report::Report;
 use super::rows::{Ask, Call, Row, Rows};
-use super::tables::{Size, VERSION_WORDS};
+use super::tables::{Size, MOST_HEIGHT, VERSION_WORDS};
 use super::Calls;
 
 /// How many cases are taken from one played history, on average.
@@ -35,7 +35,6 @@ pub fn compare_cases(other: &dyn Calls, seed: u64, count: u64) -> Report {
 
 fn new_history(chance: &mut Chance) -> Played {
     const MOST_COMMON_HEIGHT: u64 = 5;
-    const MOST_HEIGHT: u64 = 12;
     let height = 1 + if chance.one_in(50) { chance.below(MOST_HEIGHT) } else { chance.below(MOST_COMMON_HEIGHT) };
     let size = Size::of(1 << height).expect("a power of two within the bounds");
     let workers = if chance.one_in(8) { MOST_WORKERS } else { 1 + chance.below(4) };
@@ -70,7 +69,7 @@ impl Case {
         case
     }
 
-    /// Rows may be longer than needed; what lies beyond must stay as it is.
+    /// Rows may be longer than needed: of a version table more versions are then in use, and all else beyond must stay as it is.
     fn lengthen(&mut self, chance: &mut Chance) {
         const MOST_MORE: u64 = 3 * RECORD_WORDS as u64;
         for row in Row::ALL {

@@ -7,7 +7,8 @@ use std::fmt;
 use super::calls::MOST_WORKERS;
 use super::chance::Chance;
 use super::played::any_operation;
-use super::tables::{Size, MOST_CELLS, MOST_VERSIONS};
+use super::report::{none_unmet, unmet};
+use super::tables::{Size, MOST_CELLS, MOST_HEIGHT, MOST_VERSIONS};
 use super::watch::Watch;
 use super::Calls;
 
@@ -23,13 +24,13 @@ enum Mood {
     Stopped,
 }
 
-/// How the histories of a report went, for the reader of the comparison.
+/// How the histories of a report went, and whether they met what is hard to meet.
 #[derive(Debug, Default)]
 pub struct HistoryReport {
     pub histories: u64,
     pub operations: u64,
-    /// Answers by their kind.
-    pub answers: BTreeMap<u64, u64>,
+    /// Answers by the operation's kind and their own.
+    pub answers: BTreeMap<(u64, u64), u64>,
     /// Refused starts and steps, which are no part of a history, by number.
     pub refused: BTreeMap<u64, u64>,
     /// By height: most own steps of an update, most own steps of a query.
@@ -38,7 +39,29 @@ pub struct HistoryReport {
     pub failed_twice: u64,
 }
 
+/// Every kind of answer that an operation can give: Insert (1) and Delete (2) yes or no, Find (3) none or a level, Select (4)
+/// none or a cell, Rank (5) and Total (6) sums.
+const ANSWERS: [(u64, u64); 10] = [(1, 1), (1, 2), (2, 1), (2, 2), (3, 3), (3, 4), (4, 3), (4, 5), (5, 6), (6, 6)];
+
+/// The refusals that a start or a step with sensible numbers can meet: busy, idle, no versions left.
+const REFUSALS: [u64; 3] = [5, 6, 8];
+
 impl HistoryReport {
+    /// Tells what was never met, if anything. Queries reach their bound at every height. An update does so where its first refresh
+    /// fails at every node, which chance brings about at some heights only.
+    pub fn all_met(&self) -> Result<(), String> {
+        let updates = self.most_steps.iter().filter(|(height, most)| most.0 == most_update_steps(**height)).count();
+        let queries = self.most_steps.iter().filter(|(height, most)| most.1 == most_query_steps(**height)).count();
+        let happened = [
+            (self.placed_by_another > 0, "an update placed by another's swap"),
+            (self.failed_twice > 0, "both refreshes failed"),
+            (updates > 0, "an update's bound of own steps"),
+            (queries as u64 == MOST_HEIGHT, "a query's bound of own steps at every height"),
+        ];
+        let never = happened.iter().filter(|(met, _)| !met).map(|(_, what)| what.to_string());
+        none_unmet(&[unmet("answer", &ANSWERS, &self.answers), unmet("refusal", &REFUSALS, &self.refused), never.collect()])
+    }
+
     pub fn note_update_steps(&mut self, size: Size, steps: u64) {
         let most = self.most_steps.entry(size.height).or_default();
         most.0 = most.0.max(steps);
@@ -53,13 +76,23 @@ impl HistoryReport {
 impl fmt::Display for HistoryReport {
     fn fmt(&self, form: &mut fmt::Formatter) -> fmt::Result {
         writeln!(form, "histories {}, operations {}", self.histories, self.operations)?;
-        writeln!(form, "answers by kind {:?}, refused by number {:?}", self.answers, self.refused)?;
+        writeln!(form, "answers by kinds of operation and answer {:?}", self.answers)?;
+        writeln!(form, "refused by number {:?}", self.refused)?;
         writeln!(form, "placed by another's swap {}, refreshes failed twice {}", self.placed_by_another, self.failed_twice)?;
         self.most_steps.iter().try_for_each(|(height, (update, query))| {
-            let (update_bound, query_bound) = (2 + 8 * height, 1 + height);
+            let (update_bound, query_bound) = (most_update_steps(*height), most_query_steps(*height));
             writeln!(form, "  height {height:>2}: most own steps {update} of {update_bound}, {query} of {query_bound}")
         })
     }
+}
+
+/// Two steps at the leaf, and at each inner node above two refreshes of four.
+pub fn most_update_steps(height: u64) -> u64 {
+    2 + 8 * height
+}
+
+pub fn most_query_steps(height: u64) -> u64 {
+    1 + height
 }
 
 /// An update of two versions takes seven calls with its start, and one of more takes more for each.
@@ -68,12 +101,14 @@ const CALLS_A_VERSION: u64 = 3;
 /// One history in so many runs out of versions.
 const SHORT_OF_VERSIONS: u64 = 3;
 
-/// So many histories of so many calls each; every fourth has 4,096 cells and 16 workers.
+/// So many histories of so many calls each; every fourth has 4,096 cells and 16 workers, the others have each height in turn.
 pub fn compare_histories(other: &dyn Calls, seed: u64, histories: u64, calls: u64) -> HistoryReport {
     let mut chance = Chance::new(seed);
     let mut report = HistoryReport::default();
     for number in 0..histories {
-        let plan = if number % 4 == 3 { Plan::largest(&mut chance, calls) } else { Plan::any(&mut chance, calls) };
+        let others_before = number - number / 4;
+        let height = 1 + others_before % MOST_HEIGHT;
+        let plan = if number % 4 == 3 { Plan::largest(&mut chance, calls) } else { Plan::any(&mut chance, height, calls) };
         report = plan.play(other, &mut chance, report);
     }
     report
@@ -89,8 +124,8 @@ struct Plan {
 }
 
 impl Plan {
-    fn any(chance: &mut Chance, calls: u64) -> Plan {
-        let size = Size::of(2 << chance.below(12)).expect("a power of two within the bounds");
+    fn any(chance: &mut Chance, height: u64, calls: u64) -> Plan {
+        let size = Size::of(1 << height).expect("a power of two within the bounds");
         let mood = chance.pick(&[Mood::Calm, Mood::Wild, Mood::Fought, Mood::Stopped]);
         let few_cells = if mood == Mood::Fought { 1 + chance.below(4) } else { size.cells };
         let spare = if chance.one_in(SHORT_OF_VERSIONS) { chance.below(calls / 8 + 1) } else { calls / CALLS_A_VERSION };
@@ -99,10 +134,10 @@ impl Plan {
     }
 
     fn largest(chance: &mut Chance, calls: u64) -> Plan {
-        let size = Size::of(MOST_CELLS).expect("the largest tree");
-        let versions = MOST_VERSIONS.min(size.least_used() + calls / CALLS_A_VERSION);
         let few_cells = chance.pick(&[2, 16, MOST_CELLS]);
-        Plan { size, workers: MOST_WORKERS, versions, few_cells, ..Plan::any(chance, calls) }
+        let plan = Plan::any(chance, MOST_HEIGHT, calls);
+        let versions = MOST_VERSIONS.min(plan.size.least_used() + calls / CALLS_A_VERSION);
+        Plan { workers: MOST_WORKERS, versions, few_cells, ..plan }
     }
 
     /// Plays one history and counts it into the report.

@@ -1,6 +1,8 @@
 //! The page's large sizes, which small cases do not reach: up to 4,096 cells, 16 workers and 1,000,000 versions.
 //! Both implementations keep their own rows; these are driven by the same calls and stay the same.
 
+use std::ops::Range;
+
 use super::calls::MOST_WORKERS;
 use super::cases::row_differences;
 use super::chance::Chance;
@@ -8,8 +10,8 @@ use super::conversion::Level;
 use super::damage::Aim;
 use super::played::{plain_ask, sensible_ask};
 use super::record::{Operation, Query, Record, Update};
-use super::refusal::Refusal;
-use super::report::Report;
+use super::refusal::{Clause, Refusal, Side, Swapping};
+use super::report::{Report, Wanted};
 use super::rows::{Ask, Call, Row, Rows, Spot};
 use super::tables::{versions_in, Cell, Size, MOST_VERSIONS, VERSION_WORDS};
 use super::Calls;
@@ -37,6 +39,19 @@ pub fn compare_large(other: &dyn Calls, seed: u64) -> Report {
     report
 }
 
+/// What the large sizes are there for: refusal 8 where the last of a million versions are promised, refusal 9 for a used count
+/// above V and for a swap that finds no version left, and whole operations.
+pub fn wanted() -> Wanted {
+    let rooms = Swapping::ALL.iter().map(|&swapping| Clause::SwapWithoutRoom(swapping));
+    let above = [Clause::StartUsed(Side::Above), Clause::Used(Side::Above)];
+    Wanted {
+        accepted: vec![Call::Open, Call::Start, Call::Step],
+        answers: (0..=6).collect(),
+        refused: vec![8, 9],
+        clauses: above.into_iter().chain(rooms).collect(),
+    }
+}
+
 fn compare_size(other: &dyn Calls, chance: &mut Chance, size: Size, version_words: usize, report: Report) -> Report {
     let rows = Rows::for_tree(size.cells, MOST_WORKERS, version_words);
     let mut twin = Twin { other, size, written: rows.clone(), others: rows, report };
@@ -62,26 +77,26 @@ struct Twin<'a> {
 }
 
 impl Twin<'_> {
-    /// Puts a call to both sides, and compares what it returns and what it may write: the answer's row, the board, the
-    /// node table, and the version after the last used one. The version behind that is compared too, and the whole tables
-    /// now and then. This suffices: a word wrongly written elsewhere stays wrong until the whole tables are compared,
-    /// for it is only written again when its version's turn comes, and the call before that has compared it.
+    /// Puts a call to both sides, and compares what it returns and what a start or a step may write: the answer's row, the board,
+    /// the node table, and the version after the last used one. The whole version tables are compared now and then and at the end.
+    /// This suffices: a word wrongly written elsewhere stays wrong until then. For what is written on both sides is compared
+    /// before: here the version after the last used one, in `open` the whole tables, in `set` the word.
     fn ask(&mut self, ask: &Ask) -> u64 {
         const UNTOUCHED: u64 = 77;
         let next = self.next_version();
+        self.compare_versions(next.clone());
         let (mut answer, mut others_answer) = ([UNTOUCHED; 4], [UNTOUCHED; 4]);
         let judged = ask.judged(&mut self.written, &mut answer);
         let number = judged.map_or_else(Refusal::number, |()| 0);
         let returned = ask.put_to(self.other, &mut self.others, &mut others_answer);
         assert_eq!(returned, number, "{ask:?}, {judged:?}");
-        let end = self.written.versions.len().min(next + 2 * VERSION_WORDS);
         let differences = [
             row_differences("answer", &answer, &others_answer),
             row_differences("nodes", &self.written.nodes, &self.others.nodes),
             row_differences("board", &self.written.board, &self.others.board),
-            row_differences("next versions", &self.written.versions[next..end], &self.others.versions[next..end]),
         ];
         assert_eq!(differences.concat(), [""; 0], "{ask:?}, {judged:?}");
+        self.compare_versions(next);
         self.report.count(ask.call, judged, &answer);
         if self.report.cases.is_multiple_of(CALLS_BETWEEN_WHOLE) {
             self.compare_whole();
@@ -89,17 +104,23 @@ impl Twin<'_> {
         number
     }
 
-    /// The first word of the version after the last used one; the used count may be any word.
-    fn next_version(&self) -> usize {
-        VERSION_WORDS * self.written.used().min(self.most_used()) as usize
+    /// The words of the version after the last used one, as far as there are any; the used count may be any word.
+    fn next_version(&self) -> Range<usize> {
+        let first = VERSION_WORDS * self.written.used().min(self.most_used()) as usize;
+        first..self.written.versions.len().min(first + VERSION_WORDS)
+    }
+
+    fn compare_versions(&self, words: Range<usize>) {
+        let differences = row_differences("versions", &self.written.versions[words.clone()], &self.others.versions[words.clone()]);
+        assert_eq!(differences, [""; 0], "version tables from word {} on, after {} cases", words.start, self.report.cases);
     }
 
     fn compare_whole(&self) {
-        let differences = row_differences("versions", &self.written.versions, &self.others.versions);
-        assert_eq!(differences, [""; 0], "whole version tables");
+        self.compare_versions(0..self.written.versions.len());
     }
 
     fn set(&mut self, spot: Spot, value: u64) {
+        assert_eq!(self.written.word(spot), self.others.word(spot), "{spot:?} before it is set, after {} cases", self.report.cases);
         self.written.set(spot, value);
         self.others.set(spot, value);
     }
@@ -110,6 +131,7 @@ impl Twin<'_> {
 
     /// The page: "Open may be called again: it begins a new history."
     fn open(&mut self) {
+        self.compare_whole();
         assert_eq!(self.ask(&plain_ask(self.size, MOST_WORKERS, Call::Open)), 0, "open of {:?}", self.size);
         self.compare_whole();
     }
@@ -134,6 +156,7 @@ impl Twin<'_> {
         }
     }
 
+    /// The words that are put back are those of both sides, since `set` has compared them.
     fn ask_damaged(&mut self, chance: &mut Chance, ask: &Ask) {
         let aim = Aim { size: self.size, workers: MOST_WORKERS, worker: ask.worker, rows: &self.written };
         let damage = if ask.call == Call::Start { aim.damage_for_start(chance) } else { aim.damage_for_step(chance) };

@@ -1,5 +1,6 @@
-//! An estimator written from the page alone, and the comparisons that hold another implementation to it.
-//! Both are reached through one trait, the four calls on words.
+//! An estimator of its own, and the comparisons that hold another implementation to it, both reached through one trait.
+//! It was written from the rules, document 01 ("the page"), and from docs/WORDS.md and the header, which tell the form of the words
+//! and refusals 10 and 20.
 
 pub mod book;
 pub mod calls;
@@ -20,7 +21,7 @@ pub mod stepping;
 pub mod tables;
 pub mod watch;
 
-/// The four calls on words. The estimator written from the page is one implementation, the library that is compared with it another.
+/// The four calls on words. The estimator written here is one implementation, the library that is compared with it another.
 pub trait Calls {
     fn open(&self, cells: u64, workers: u64, nodes: &mut [u64], versions: &mut [u64], board: &mut [u64]) -> u64;
     #[allow(clippy::too_many_arguments)]

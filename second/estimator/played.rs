@@ -1,5 +1,5 @@
 //! A really played history at some moment, from which single cases and large comparisons are taken.
-//! It is played on the estimator written from the page, by chance.
+//! It is played on the estimator written here, by chance.
 
 use super::chance::Chance;
 use super::conversion::{Level, MOST_LEVEL};

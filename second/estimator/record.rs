@@ -182,7 +182,7 @@ pub struct Climb {
     pub reads: Reads,
 }
 
-/// Where a query stands: how many levels below the root, and at which version.
+/// Where a query stands: how deep below the root, and at which version.
 #[derive(Clone, Copy, Debug, PartialEq, Eq)]
 pub struct Stand {
     pub depth: u64,

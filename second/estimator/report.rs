@@ -7,8 +7,20 @@ use std::fmt;
 use super::refusal::{Clause, Refusal};
 use super::rows::Call;
 
-/// Kinds of answers are numbered from 0, going on, to 7, an energy.
-const LAST_ANSWER: u64 = 7;
+/// What a comparison must have met, by the names under which a report counts it.
+pub struct Wanted {
+    pub accepted: Vec<Call>,
+    pub answers: Vec<u64>,
+    pub refused: Vec<u64>,
+    pub clauses: Vec<Clause>,
+}
+
+impl Wanted {
+    /// Kinds of answers are numbered from 0, going on, to 7, an energy.
+    fn everything() -> Wanted {
+        Wanted { accepted: Call::ALL.into(), answers: (0..=7).collect(), refused: Refusal::NUMBERS.into(), clauses: Clause::all() }
+    }
+}
 
 #[derive(Debug, Default)]
 pub struct Report {
@@ -43,22 +55,31 @@ impl Report {
         }
     }
 
-    /// Tells what was never met, if anything.
     pub fn all_met(&self) -> Result<(), String> {
-        let missing = [
-            unmet("accepted", Call::ALL, &self.accepted),
-            unmet("answer", 0..=LAST_ANSWER, &self.answers),
-            unmet("refusal", Refusal::NUMBERS, &self.refused),
-            unmet("clause", Clause::all(), &self.clauses),
-        ];
-        let missing = missing.concat();
-        if missing.is_empty() { Ok(()) } else { Err(format!("never met: {}", missing.join(", "))) }
+        self.has_met(&Wanted::everything())
+    }
+
+    /// Tells what of the wanted was never met, if anything.
+    pub fn has_met(&self, wanted: &Wanted) -> Result<(), String> {
+        none_unmet(&[
+            unmet("accepted", &wanted.accepted, &self.accepted),
+            unmet("answer", &wanted.answers, &self.answers),
+            unmet("refusal", &wanted.refused, &self.refused),
+            unmet("clause", &wanted.clauses, &self.clauses),
+        ])
     }
 }
 
-fn unmet<Name: Ord + fmt::Debug>(kind: &str, names: impl IntoIterator<Item = Name>, counts: &BTreeMap<Name, u64>) -> Vec<String> {
-    let unmet = names.into_iter().filter(|name| !counts.contains_key(name));
+/// Those of the names that were never counted.
+pub fn unmet<Name: Ord + fmt::Debug>(kind: &str, names: &[Name], counts: &BTreeMap<Name, u64>) -> Vec<String> {
+    let unmet = names.iter().filter(|name| !counts.contains_key(name));
     unmet.map(|name| format!("{kind} {name:?}")).collect()
+}
+
+/// One sentence about all that was never met, if anything.
+pub fn none_unmet(unmet: &[Vec<String>]) -> Result<(), String> {
+    let unmet = unmet.concat();
+    if unmet.is_empty() { Ok(()) } else { Err(format!("never met: {}", unmet.join(", "))) }
 }
 
 fn line<Name: fmt::Debug>(counts: &BTreeMap<Name, u64>) -> String {

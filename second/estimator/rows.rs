@@ -123,7 +123,7 @@ impl Ask {
         }
     }
 
-    /// The same call on the estimator written from the page, which also tells the clause.
+    /// The same call on the estimator written here, which also tells the clause.
     pub fn judged(&self, rows: &mut Rows, answer: &mut [u64]) -> Result<(), Refusal> {
         let numbers = [self.cells, self.workers, self.worker];
         let Rows { nodes, versions, board } = rows;

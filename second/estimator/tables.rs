@@ -6,6 +6,7 @@ use super::refusal::{Flaw, Side};
 
 pub const LEAST_CELLS: u64 = 2;
 pub const MOST_CELLS: u64 = 4_096;
+pub const MOST_HEIGHT: u64 = 12;
 pub const MOST_VERSIONS: u64 = 1_000_000;
 pub const VERSION_WORDS: usize = 5;
 
@@ -75,7 +76,7 @@ impl Size {
 
     /// Whether a cell's leaf lies below an inner node.
     pub fn is_on_path(self, node: Node, cell: Cell) -> bool {
-        (1..=self.height).any(|levels_up| self.leaf(cell).0 >> levels_up == node.0)
+        (1..=self.height).any(|nodes_up| self.leaf(cell).0 >> nodes_up == node.0)
     }
 
     /// Open uses one version for each node.

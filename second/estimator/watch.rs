@@ -1,8 +1,13 @@
 //! One history played through an implementation alone, watched from outside by its calls and by the words it leaves.
 //! Each answer is held to the book at the operation's place, each operation to its bound of own steps.
+//!
+//! Of the versions it only takes from the implementation's own table whether a leaf is marked when it is read, and holds only
+//! count and energy at the root to the book. Beside the single calls this is enough: there every word that a step leaves is
+//! compared. A history adds what no single call can show, the order and the answers. A leaf wrongly marked would come to light in it
+//! all the same, in the sums at the root, and a wrong cell or level below the same sums in the answers of Find, Select and Rank.
 
 use super::book::Book;
-use super::histories::HistoryReport;
+use super::histories::{most_query_steps, most_update_steps, HistoryReport};
 use super::order::{Order, Seen, UpdateNumber};
 use super::played::plain_ask;
 use super::record::{Answer, Operation, Query, Update, ANSWER_WORDS};
@@ -290,18 +295,26 @@ impl<'a> Watch<'a> {
 
     fn end(&mut self, worker: u64, answer: Answer) {
         let Watched { work, own_steps } = self.workers[worker as usize];
-        let (most_update, most_query) = (2 + 8 * self.size.height, 1 + self.size.height);
-        if let Work::Update { number, .. } = work {
-            let placed = self.updates[number.0].placed.map_or(u64::MAX, |placed| placed.moment);
-            assert!(placed <= self.moment, "an update is placed no later than its answer");
-            assert!(own_steps <= most_update, "worker {worker} took {own_steps} steps for an update");
-            self.report.note_update_steps(self.size, own_steps);
-        } else {
-            assert!(own_steps <= most_query, "worker {worker} took {own_steps} steps for a query");
-            self.report.note_query_steps(self.size, own_steps);
-        }
-        *self.report.answers.entry(answer.words()[0]).or_default() += 1;
+        let operation = match work {
+            Work::Nothing => panic!("an idle worker answers nothing"),
+            Work::Update { number, .. } => Operation::Update(self.end_update(number, own_steps)),
+            Work::Query { query, .. } => {
+                assert!(own_steps <= most_query_steps(self.size.height), "{own_steps} own steps of {query:?}");
+                self.report.note_query_steps(self.size, own_steps);
+                Operation::Query(query)
+            }
+        };
+        *self.report.answers.entry((operation.words()[0], answer.words()[0])).or_default() += 1;
         self.workers[worker as usize] = Watched { work: Work::Nothing, own_steps: 0 };
+    }
+
+    fn end_update(&mut self, number: UpdateNumber, own_steps: u64) -> Update {
+        let Filed { update, placed, .. } = self.updates[number.0];
+        let placed = placed.map_or(u64::MAX, |placed| placed.moment);
+        assert!(placed <= self.moment, "an update is placed no later than its answer");
+        assert!(own_steps <= most_update_steps(self.size.height), "{own_steps} own steps of {update:?}");
+        self.report.note_update_steps(self.size, own_steps);
+        update
     }
 
     /// The page: "At every moment the root's version shows the book of all updates placed so far."

@@ -163,6 +163,10 @@ commandOf s =
     (pick (starts startWord s) (startsOf (drop 6 s))
     (pick (starts openWord s) (openOf (threeOf (drop 5 s))) Line.Not))
 
--- a line of more than 40 bytes is no command
+-- the most bytes of a line that can be a command
+abbrev pub longest : ℕ
+longest = 40
+
+-- a longer line is no command
 unfoldable pub lineOf : List ℕ → Line
-lineOf s = pick (ltb 40 (length s)) Line.Not (commandOf s)
+lineOf s = pick (ltb longest (length s)) Line.Not (commandOf s)

@@ -316,8 +316,11 @@ fn read_command(s: &[u8]) -> Line
 pub fn parse(s: &[u8]) -> Line
     ensures { λ r. ⌜ r ≡ lineOf (now (s .entry)) ⌝ }
 {
-    if 40 < s.len() {
+    if LONGEST_LINE < s.len() {
         return Line::Not;
     }
     read_command(s)
 }
+
+// The most bytes of a line that can be a command.
+pub const LONGEST_LINE: usize = 40;

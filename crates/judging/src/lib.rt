@@ -11,7 +11,7 @@ use trie::VERSION_WORDS;
 pub fn is_manned(w: u64, seats: usize) -> bool
     ensures { λ r. ⌜ r ≡ mannedBy w seats ⌝ }
 {
-    ((1 <= w) & (w <= MOST_WORKERS)) & (w <= seats as u64)
+    ((1 <= w) & (w <= MOST_WORKERS as u64)) & (w <= seats as u64)
 }
 
 fn room(versions: usize) -> u64

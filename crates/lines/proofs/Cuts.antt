@@ -12,7 +12,8 @@ use Rattle.trie.specs.Choice.{pick}
 use Rattle.lines.specs.declared.Begun.{Begun}
 use Rattle.lines.specs.Watch.{Watch}
 use Rattle.lines.specs.Turns.{Answered, lineTurn}
-use Rattle.lines.specs.Chunks.{longest, Part, upto, over, more, lineAt, Listing, listing, ended, byteOf, servedOf, partOf, serveOf}
+use Rattle.grammar.specs.Grammar.{longest}
+use Rattle.lines.specs.Chunks.{Part, upto, over, more, lineAt, Listing, listing, ended, byteOf, servedOf, partOf, serveOf}
 use Rattle.lines.proofs.Feeds.{fits, begun-back, part-fits}
 
 -- two runs of bytes, one after the other, do what they do as one

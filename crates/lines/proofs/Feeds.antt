@@ -9,14 +9,14 @@ use borrow.Author.Tests.{eq-eqb, ne-eqb, lt-ltb, le-leb, lt-leb, leb-true, leb-f
 use lib.Dec.{eqb, ltb, leb}
 use lib.ListN.{length, take, drop, getD, length-append, take-append-drop, drop-of-length-le, length-drop, length-take}
 use lib.Seq.{paste, take-suc, getD-drop, drop-drop, take-length, take-paste, drop-paste, length-take-le}
-use Rattle.grammar.specs.Grammar.{lineOf}
+use Rattle.grammar.specs.Grammar.{longest, lineOf}
 use Rattle.grammar.proofs.Laws.{first}
 use Rattle.trie.specs.Choice.{pick}
 use Rattle.lines.specs.declared.Begun.{Begun}
 use Rattle.grammar.specs.Text.{Put}
 use Rattle.lines.specs.Watch.{Watch}
 use Rattle.lines.specs.Turns.{Answered, lineTurn}
-use Rattle.lines.specs.Chunks.{longest, Part, upto, over, more, lineAt, listing, ended, servedOf, zeros, partOf, begunOf}
+use Rattle.lines.specs.Chunks.{Part, upto, over, more, lineAt, listing, ended, servedOf, zeros, partOf, begunOf}
 use Rattle.lines.specs.Feeding.{plain, grown, between, Ends}
 
 pub not-both : false ≡ true → ⊥

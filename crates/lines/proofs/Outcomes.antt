@@ -13,7 +13,8 @@ use Rattle.trie.specs.Choice.{pick}
 use Rattle.lines.specs.declared.Begun.{Begun}
 use Rattle.lines.specs.declared.Place.{Place}
 use Rattle.lines.specs.Watch.{Watch}
-use Rattle.lines.specs.Chunks.{longest, Part, upto, over, Listing, listing, byteOf, servedOf, zeros, partOf, begunOf, Outcome, outcome, serveOf, finishOf}
+use Rattle.grammar.specs.Grammar.{longest}
+use Rattle.lines.specs.Chunks.{Part, upto, over, Listing, listing, byteOf, servedOf, zeros, partOf, begunOf, Outcome, outcome, serveOf, finishOf}
 use Rattle.lines.specs.Feeding.{grown, between, widest, before}
 use Rattle.lines.specs.Places.{Closes}
 use Rattle.lines.proofs.Feeds.{served-rest}

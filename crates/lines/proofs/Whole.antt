@@ -8,11 +8,11 @@ use native.Mathlib.Omega.{arith}
 use lib.Dec.{eqb, leb, eqb·suc-zero}
 use lib.ListN.{length, take, drop}
 use Rattle.grammar.specs.declared.Line.{Line}
-use Rattle.grammar.specs.Grammar.{lineOf}
+use Rattle.grammar.specs.Grammar.{longest, lineOf}
 use Rattle.trie.specs.Choice.{pick}
 use Rattle.lines.specs.Watch.{Watch}
 use Rattle.lines.specs.Turns.{Answered, lineTurn}
-use Rattle.lines.specs.Chunks.{longest, Part, upto, over, more, lineAt, Listing, listing, ended, byteOf, servedOf, partOf, begunOf, outcome, serveOf, finishOf}
+use Rattle.lines.specs.Chunks.{Part, upto, over, more, lineAt, Listing, listing, ended, byteOf, servedOf, partOf, begunOf, outcome, serveOf, finishOf}
 use Rattle.lines.specs.Feeding.{grown}
 use Rattle.lines.specs.Whole.{lastOf, linesFrom, linesOf, answersOf, textOf, writesOf, joined}
 use Rattle.lines.proofs.Feeds.{fits, begun-back, grown-is, line-whole}

@@ -6,15 +6,11 @@ use lib.Dec.{eqb, ltb, leb}
 use lib.ListN.{length, take, drop, replicate}
 use lib.Seq.{paste}
 use Rattle.grammar.specs.declared.Line.{Line}
-use Rattle.grammar.specs.Grammar.{lineOf}
+use Rattle.grammar.specs.Grammar.{longest, lineOf}
 use Rattle.trie.specs.Choice.{pick}
 use Rattle.lines.specs.declared.Begun.{Begun}
 use Rattle.lines.specs.Watch.{Watch}
 use Rattle.lines.specs.Turns.{Answered, lineTurn}
-
--- the longest line that can be a command
-abbrev pub longest : ℕ
-longest = 40
 
 -- the line that is begun: its bytes so far, or that they are more than the longest line has
 pub data Part : Type 0 where

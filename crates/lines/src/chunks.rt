@@ -9,8 +9,10 @@ ghost use Rattle.lines.specs.Feeding.{widest};
 ghost use Rattle.lines.specs.Places.{Closes};
 use crate::Begun;
 use crate::History;
+use crate::NODE_TABLE;
 use crate::Place;
 use crate::Served;
+use crate::VERSION_TABLE;
 use crate::keeping::blank;
 use crate::keeping::close;
 use crate::places::first_place;
@@ -23,6 +25,7 @@ use crate::runs::first_run;
 use crate::runs::is_on;
 use crate::runs::serve_steps;
 use crate::turns::take_turn;
+use trie::MOST_WORKERS;
 use trie::Worker;
 
 // Serves the lines that end in the chunk.
@@ -52,7 +55,7 @@ fn serve_lines(
     p
 }
 
-fn served(begun: Begun, p: Place, board: [Worker; 16]) -> Served
+fn served(begun: Begun, p: Place, board: [Worker; MOST_WORKERS]) -> Served
     ensures { λ r. ⌜ r ≡ record { begun = begun; history = p .history; board = board; filled = p .filled } ⌝ }
 {
     let h = p.history;
@@ -68,7 +71,7 @@ fn serve_bytes(
     chunk: &[u8],
     begun: Begun,
     history: History,
-    board: [Worker; 16],
+    board: [Worker; MOST_WORKERS],
     nodes: &mut [u64],
     versions: &mut [u64],
     out: &mut [u8],
@@ -87,9 +90,9 @@ pub fn serve(
     n: usize,
     begun: Begun,
     history: History,
-    board: [Worker; 16],
-    nodes: &mut [u64; 32],
-    versions: &mut [u64; 5000],
+    board: [Worker; MOST_WORKERS],
+    nodes: &mut [u64; NODE_TABLE],
+    versions: &mut [u64; VERSION_TABLE],
     out: &mut [u8; 1048576],
 ) -> Served
     ensures { λ r. ⌜ _≡_ {A = Outcome} (record { begun = r .begun; watch = watch (r .history) (now (nodes .exit)) (now (versions .exit)) (r .board); out = now (out .exit); filled = r .filled }) (serveOf begun (watch history (now (nodes .entry)) (now (versions .entry)) board) (now (out .entry)) (take n (now (chunk .entry)))) ⌝ }
@@ -112,9 +115,9 @@ fn first(chunk: &[u8], n: usize) -> &[u8]
 pub fn finish(
     begun: Begun,
     history: History,
-    board: [Worker; 16],
-    nodes: &mut [u64; 32],
-    versions: &mut [u64; 5000],
+    board: [Worker; MOST_WORKERS],
+    nodes: &mut [u64; NODE_TABLE],
+    versions: &mut [u64; VERSION_TABLE],
     out: &mut [u8; 1048576],
 ) -> Served
     ensures { λ r. ⌜ _≡_ {A = Outcome} (record { begun = r .begun; watch = watch (r .history) (now (nodes .exit)) (now (versions .exit)) (r .board); out = now (out .exit); filled = r .filled }) (finishOf begun (watch history (now (nodes .entry)) (now (versions .entry)) board) (now (out .entry))) ⌝ }

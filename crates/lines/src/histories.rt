@@ -4,6 +4,10 @@ ghost use mathlib.Core.Path.{_≡_};
 ghost use Rattle.lines.specs.Watch.{opened};
 ghost use Rattle.lines.specs.Calling.{wordsOf};
 use crate::History;
+use crate::LISTED_CELLS;
+use crate::LISTED_VERSIONS;
+use trie::MOST_WORKERS;
+use trie::VERSION_WORDS;
 
 pub(crate) fn is_open(h: History) -> bool
     ensures { λ r. ⌜ r ≡ opened h ⌝ }
@@ -14,17 +18,21 @@ pub(crate) fn is_open(h: History) -> bool
     if !tables::is_allowed(n) {
         return false;
     }
-    if 16 < n {
+    if LISTED_CELLS < n {
         return false;
     }
-    ((1 <= w) & (w <= 16)) & ((2 * n - 1 <= v) & (v <= 1000))
+    ((1 <= w) & (w <= MOST_WORKERS as u64)) & ((2 * n - 1 <= v) & (v <= LISTED_VERSIONS))
 }
 
 // The words that are lent to an open; none where V is more than there are here, so that it is refused with 3.
 pub(crate) fn words(v: u64) -> usize
     ensures { λ r. ⌜ r ≡ wordsOf v ⌝ }
 {
-    if v <= 1000 { (5 * v) as usize } else { 0 }
+    if v <= LISTED_VERSIONS {
+        (VERSION_WORDS * v) as usize
+    } else {
+        0
+    }
 }
 
 // The words that are lent to the calls of a history.

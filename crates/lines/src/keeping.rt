@@ -8,6 +8,7 @@ ghost use Rattle.lines.specs.Feeding.{grown, before};
 use crate::Begun;
 use crate::Place;
 use crate::text::put;
+use grammar::LONGEST_LINE;
 use grammar::Line;
 
 // No line is begun.
@@ -15,23 +16,23 @@ pub(crate) fn blank() -> Begun
     ensures { λ r. ⌜ r ≡ record { bytes = zeros; held = 0 } ⌝ }
 {
     Begun {
-        bytes: [0u8; 40],
+        bytes: [0u8; LONGEST_LINE],
         held: 0,
     }
 }
 
 // The line that is begun, with some bytes more; a line of more than 40 is not stored.
-pub(crate) fn keep(old: [u8; 40], held: usize, s: &[u8]) -> Begun
+pub(crate) fn keep(old: [u8; LONGEST_LINE], held: usize, s: &[u8]) -> Begun
     ensures { λ r. ⌜ r ≡ begunOf (grown (partOf (record { bytes = old; held = held })) (now (s .entry))) ⌝ }
 {
-    let mut bytes = [0u8; 40];
-    if 40 < held {
+    let mut bytes = [0u8; LONGEST_LINE];
+    if LONGEST_LINE < held {
         return Begun {
             bytes: bytes,
             held: 41,
         };
     }
-    if 40 - held < s.len() {
+    if LONGEST_LINE - held < s.len() {
         return Begun {
             bytes: bytes,
             held: 41,
@@ -46,10 +47,10 @@ pub(crate) fn keep(old: [u8; 40], held: usize, s: &[u8]) -> Begun
 }
 
 // The line that was begun, now that it has ended.
-pub(crate) fn begun_line(bytes: [u8; 40], held: usize) -> Line
+pub(crate) fn begun_line(bytes: [u8; LONGEST_LINE], held: usize) -> Line
     ensures { λ r. ⌜ r ≡ lineAt (partOf (record { bytes = bytes; held = held })) ⌝ }
 {
-    if 40 < held {
+    if LONGEST_LINE < held {
         return Line::Not;
     }
     grammar::parse(&bytes[..held])
@@ -66,5 +67,5 @@ pub(crate) fn close(p: Place, begun: Begun, chunk: &[u8]) -> Begun
     if from == 0 {
         return keep(old, held, chunk);
     }
-    keep([0u8; 40], 0, &chunk[from..])
+    keep([0u8; LONGEST_LINE], 0, &chunk[from..])
 }

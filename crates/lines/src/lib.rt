@@ -11,11 +11,22 @@ mod turns;
 
 pub use chunks::finish;
 pub use chunks::serve;
+pub use grammar::LONGEST_LINE;
 use grammar::Line;
 use trie::Accepted;
+use trie::MOST_WORKERS;
 use trie::Operation;
 use trie::Progress;
 use trie::Worker;
+
+// The most cells and the most versions of a history here, fewer than elsewhere; and tables with room for them.
+pub(crate) const LISTED_CELLS: u64 = 16;
+
+pub(crate) const LISTED_VERSIONS: u64 = 1000;
+
+pub const NODE_TABLE: usize = 32;
+
+pub const VERSION_TABLE: usize = 5000;
 
 // The N, W and V of the history that is under way; zeros before the first accepted open.
 pub struct History {
@@ -26,7 +37,7 @@ pub struct History {
 
 // The bytes of a line whose end has not come yet, with zeros behind them; 41 held stands for more than 40.
 pub struct Begun {
-    pub bytes: [u8; 40],
+    pub bytes: [u8; LONGEST_LINE],
     pub held: usize,
 }
 
@@ -73,6 +84,6 @@ pub struct Run {
 pub struct Served {
     pub begun: Begun,
     pub history: History,
-    pub board: [Worker; 16],
+    pub board: [Worker; MOST_WORKERS],
     pub filled: usize,
 }

@@ -7,6 +7,7 @@ ghost use Rattle.lines.specs.Turns.{turned, lineTurn};
 ghost use Rattle.lines.specs.Calling.{noOperation, call, refusal, stepping, callOf, crewOf, askedBy, keptBy};
 use crate::Call;
 use crate::History;
+use crate::LISTED_CELLS;
 use crate::Reply;
 use crate::Turn;
 use crate::histories::cells_of;
@@ -63,7 +64,7 @@ fn call_of(line: Line, h: History) -> Call
             }
         }
         Command::Open(n, _, v) => {
-            if n <= 16 {
+            if n <= LISTED_CELLS {
                 call_for(3, n, words(v), no_operation())
             } else {
                 refused(1)

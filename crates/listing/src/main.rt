@@ -5,7 +5,11 @@ ghost use Rattle.lines.specs.Watch.{history};
 ghost use Rattle.lines.specs.Chunks.{zeros};
 use lines::Begun;
 use lines::History;
+use lines::LONGEST_LINE;
+use lines::NODE_TABLE;
 use lines::Served;
+use lines::VERSION_TABLE;
+use trie::MOST_WORKERS;
 use trie::Phase;
 use trie::Worker;
 
@@ -25,7 +29,7 @@ fn blank() -> Begun
     ensures { λ r. ⌜ r ≡ record { bytes = zeros; held = 0 } ⌝ }
 {
     Begun {
-        bytes: [0u8; 40],
+        bytes: [0u8; LONGEST_LINE],
         held: 0,
     }
 }
@@ -33,9 +37,9 @@ fn blank() -> Begun
 fn main() {
     let mut chunk = [0u8; 16384];
     let mut out = [0u8; 1048576];
-    let mut nodes = [0u64; 32];
-    let mut versions = [0u64; 5000];
-    let mut board = [Worker { phase: Phase::Idle }; 16];
+    let mut nodes = [0u64; NODE_TABLE];
+    let mut versions = [0u64; VERSION_TABLE];
+    let mut board = [Worker { phase: Phase::Idle }; MOST_WORKERS];
     let mut history = fresh();
     let mut begun = blank();
     let mut turns = u64::MAX;
@@ -76,9 +80,9 @@ fn serve(
     n: usize,
     begun: Begun,
     history: History,
-    board: [Worker; 16],
-    nodes: &mut [u64; 32],
-    versions: &mut [u64; 5000],
+    board: [Worker; MOST_WORKERS],
+    nodes: &mut [u64; NODE_TABLE],
+    versions: &mut [u64; VERSION_TABLE],
     out: &mut [u8; 1048576],
 ) -> Served {
     if n == 0 {

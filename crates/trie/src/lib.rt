@@ -9,7 +9,7 @@ pub const MOST_CELLS: u64 = 4096;
 
 pub const TALLEST: u64 = 12;
 
-pub const MOST_WORKERS: u64 = 16;
+pub const MOST_WORKERS: usize = 16;
 
 pub const MOST_VERSIONS: u64 = 1000000;
 

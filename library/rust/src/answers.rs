@@ -44,12 +44,12 @@ pub enum Answer {
 
 impl Progress {
     /// Reads the three words that an accepted step has written. A kind that a step never answers is
-    /// [`Refusal::Foreign`].
+    /// [`Refusal::ForeignAnswer`].
     ///
     /// ```
     /// # use kitesonnet::{words, Answer, Progress, Refusal};
     /// assert_eq!(Progress::from_words([words::CELL, 3, 0]), Ok(Progress::Done(Answer::Cell(3))));
-    /// assert_eq!(Progress::from_words([words::ENERGY, 1000, 0]), Err(Refusal::Foreign(7)));
+    /// assert_eq!(Progress::from_words([words::ENERGY, 1000, 0]), Err(Refusal::ForeignAnswer(7)));
     /// ```
     pub fn from_words(answer: [u64; ANSWER_WORDS]) -> Result<Progress, Refusal> {
         let [kind, first, second] = answer;
@@ -61,7 +61,7 @@ impl Progress {
             words::LEVEL => Answer::Level(Level(first)),
             words::CELL => Answer::Cell(first),
             words::SUMS => Answer::Sums { count: first, energy: Energy(second) },
-            kind => return Err(Refusal::Foreign(kind)),
+            kind => return Err(Refusal::ForeignAnswer(kind)),
         };
         Ok(Progress::Done(done))
     }

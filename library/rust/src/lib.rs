@@ -47,8 +47,8 @@ pub use words::{board_words, node_words, version_words};
 /// The versions that a tree of so many cells needs, so that none of so many starts of Insert and Delete is refused with
 /// [`Refusal::Full`].
 ///
-/// A tree opens with one version for each node, and each update makes at most one on each level from its leaf to the root.
-/// Versions are not used again, so the version table is what runs out. The library uses at most
+/// A tree opens with 2 * `cells` - 1 versions, and an update makes at most 1 + h, where h is the height of the tree, which has 2
+/// to the power h cells. Versions are not used again, so the version table is what runs out. The library uses at most
 /// [`words::MOST_VERSIONS`] of them.
 ///
 /// ```
@@ -117,8 +117,8 @@ impl<'a> Estimator<'a> {
 
     /// Takes a worker's operation one step further.
     ///
-    /// With h levels in the tree (3 for 8 cells), an update is done within 2 + 8h steps of its worker and a query within 1 + h,
-    /// whatever other workers do.
+    /// With h, the height of the tree, which has 2 to the power h cells, an update is done within 2 + 8h steps of its own worker
+    /// and a query within 1 + h, whatever other workers do.
     ///
     /// ```
     /// # use kitesonnet::{Answer, Energy, Estimator, Operation, Progress, Refusal};
@@ -170,7 +170,7 @@ impl<'a> Estimator<'a> {
     }
 
     /// How many versions are used. When they come near to what the version table has room for, updates are refused with
-    /// [`Refusal::Full`].
+    /// [`Refusal::Full`], which tells what to do then.
     pub fn versions_used(&self) -> u64 {
         self.nodes[0]
     }

@@ -36,7 +36,7 @@ pub fn energy(level: Level) -> Result<Energy, Refusal> {
     Refusal::of_call(words::energy(level.0, &mut answer))?;
     match answer {
         [words::ENERGY, energy, _] => Ok(Energy(energy)),
-        [kind, ..] => Err(Refusal::Foreign(kind)),
+        [kind, ..] => Err(Refusal::ForeignAnswer(kind)),
     }
 }
 

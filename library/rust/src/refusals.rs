@@ -28,7 +28,9 @@ pub enum Refusal {
     /// 7: a cell that the tree does not have, a level above 60, or Select of 0.
     Argument,
     /// 8: too few versions are left for another update, besides those promised to updates under way. Queries are still
-    /// accepted; for more updates, open a tree with a longer version table.
+    /// accepted. Step the updates under way to their answers first: what they were promised and have not made is given back.
+    /// If that is not enough, open a tree with a longer version table and mark its cells again. A table of 1,000,000 versions
+    /// cannot be made longer, so open that one again.
     Full,
     /// 9: the words that were lent are not a tree. It never occurs in an [`Estimator`](crate::Estimator), which nothing else
     /// can change while it is in use.
@@ -37,10 +39,13 @@ pub enum Refusal {
     Operation,
     /// 20: the row for the answer is too short. It never occurs in an [`Estimator`](crate::Estimator), which lends its own.
     AnswerRow,
-    /// The archive gave back this number, as the result of a call or as the kind of an answer, and `kitesonnet.h` has none
-    /// such there. The library is proved never to do that, so another archive was linked than the one of this package's version.
-    /// It is an error like the others rather than a panic, since that is found best where a program already looks at refusals.
+    /// A call returned this number, and `kitesonnet.h` has no such refusal. The library is proved never to do that, so another
+    /// archive was linked than the one of this package's version. It is an error like the others rather than a panic, since that
+    /// is found best where a program already looks at refusals.
     Foreign(u64),
+    /// An accepted call answered with this kind, and `kitesonnet.h` has no such kind for that call. It stands apart from
+    /// [`Foreign`](Refusal::Foreign), for a kind is no number of a refusal; otherwise the same is true of it.
+    ForeignAnswer(u64),
 }
 
 impl Refusal {
@@ -59,9 +64,15 @@ impl Refusal {
         Refusal::AnswerRow,
     ];
 
-    /// The number that a call returns for it.
-    pub const fn number(self) -> u64 {
-        match self {
+    /// The number that a call returns for it. [`ForeignAnswer`](Refusal::ForeignAnswer) has none, as its call was accepted.
+    ///
+    /// ```
+    /// # use kitesonnet::Refusal;
+    /// assert_eq!(Refusal::Full.number(), Some(8));
+    /// assert_eq!(Refusal::ForeignAnswer(8).number(), None);
+    /// ```
+    pub const fn number(self) -> Option<u64> {
+        Some(match self {
             Refusal::Cells => words::REFUSED_CELLS,
             Refusal::Workers => words::REFUSED_WORKERS,
             Refusal::Tables => words::REFUSED_TABLES,
@@ -74,7 +85,8 @@ impl Refusal {
             Refusal::Operation => words::REFUSED_OPERATION,
             Refusal::AnswerRow => words::REFUSED_ANSWER,
             Refusal::Foreign(number) => number,
-        }
+            Refusal::ForeignAnswer(_) => return None,
+        })
     }
 
     /// The refusal of this number, if the library has one.
@@ -85,7 +97,7 @@ impl Refusal {
     /// assert_eq!(Refusal::from_number(0), None);
     /// ```
     pub fn from_number(number: u64) -> Option<Refusal> {
-        Refusal::ALL.into_iter().find(|refusal| refusal.number() == number)
+        Refusal::ALL.into_iter().find(|refusal| refusal.number() == Some(number))
     }
 
     /// What a call's number says: nothing to tell if it was accepted, and its refusal if not.
@@ -117,13 +129,17 @@ impl Refusal {
             Refusal::Operation => "there is no such operation",
             Refusal::AnswerRow => "the row for the answer is too short",
             Refusal::Foreign(_) => "no such number is known, so the archive is not of this package's version",
+            Refusal::ForeignAnswer(_) => "the answer is of no known kind, so the archive is not of this package's version",
         }
     }
 }
 
 impl fmt::Display for Refusal {
     fn fmt(&self, out: &mut fmt::Formatter) -> fmt::Result {
-        write!(out, "refused with number {}: {}", self.number(), self.meaning())
+        match self.number() {
+            Some(number) => write!(out, "refused with number {number}: {}", self.meaning()),
+            None => out.write_str(self.meaning()),
+        }
     }
 }
 

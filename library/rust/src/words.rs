@@ -38,7 +38,12 @@ pub const fn board_words(workers: u64) -> usize {
 
 /// A number of things that no tree has may be past all counting; it is then told as the longest row that can be named.
 const fn words_for(things: u64, each: usize) -> usize {
-    (things as usize).saturating_mul(each)
+    let words = things.saturating_mul(each as u64);
+    if words < usize::MAX as u64 {
+        words as usize
+    } else {
+        usize::MAX
+    }
 }
 
 /// Mark a cell: the cell, its level.

@@ -38,6 +38,11 @@ fn sums(count: u64, energy: u64) -> Answer {
     Answer::Sums { count, energy: Energy(energy) }
 }
 
+/// The page tells refusals by their numbers.
+fn number(refusal: Refusal) -> u64 {
+    refusal.number().expect("a refusal of the page has a number")
+}
+
 /// Steps a worker to its answer, and tells the steps too.
 fn finish(tree: &mut Estimator, worker: u64) -> (u64, Answer) {
     let mut steps = 0;
@@ -84,7 +89,7 @@ fn e2_energies_of_high_levels() {
 
 #[test]
 fn e3_no_energy_above_level_60() {
-    assert_eq!(energy(Level(61)).map_err(Refusal::number), Err(7));
+    assert_eq!(energy(Level(61)).map_err(number), Err(7));
 }
 
 #[test]
@@ -134,7 +139,7 @@ fn r2_versions_are_promised() {
         let mut rows = Rows::new(4, 2, versions);
         let mut tree = rows.open(4, 2).unwrap();
         tree.start(A, insert(3, 40)).unwrap();
-        tree.start(B, insert(3, 30)).map_err(Refusal::number)
+        tree.start(B, insert(3, 30)).map_err(number)
     };
     assert_eq!(second_start(13), Ok(()));
     assert_eq!(second_start(12), Err(8));
@@ -163,13 +168,13 @@ fn l1_two_cells_open() {
 
 #[test]
 fn l2_cells_that_are_not_allowed() {
-    let opened = |cells| Rows::new(8192, 1, 20_000).open(cells, 1).map(|_| ()).map_err(Refusal::number);
+    let opened = |cells| Rows::new(8192, 1, 20_000).open(cells, 1).map(|_| ()).map_err(number);
     assert_eq!([1, 3, 8192].map(opened), [Err(1); 3]);
 }
 
 #[test]
 fn l3_workers() {
-    let opened = |workers| Rows::new(2, 17, 3).open(2, workers).map(|_| ()).map_err(Refusal::number);
+    let opened = |workers| Rows::new(2, 17, 3).open(2, workers).map(|_| ()).map_err(number);
     assert_eq!([16, 0, 17].map(opened), [Ok(()), Err(2), Err(2)]);
 }
 
@@ -186,7 +191,7 @@ fn l4_an_empty_tree() {
 fn l5_no_room_for_an_update() {
     let mut rows = Rows::new(4, 1, 7);
     let mut tree = rows.open(4, 1).unwrap();
-    let inserts = [0, 1, 2, 3].map(|cell| tree.start(A, insert(cell, 40)).map_err(Refusal::number));
-    let deletes = [0, 1, 2, 3].map(|cell| tree.start(A, Delete { cell }).map_err(Refusal::number));
+    let inserts = [0, 1, 2, 3].map(|cell| tree.start(A, insert(cell, 40)).map_err(number));
+    let deletes = [0, 1, 2, 3].map(|cell| tree.start(A, Delete { cell }).map_err(number));
     assert_eq!((inserts, deletes), ([Err(8); 4], [Err(8); 4]));
 }
