@@ -57,8 +57,8 @@ fn select_next(
     }
 }
 
-// The left side has too few: right, and its count is passed. At the last step too, where the sum is neither stored nor
-// answered: no step may form a sum past the bounds.
+// The left side has too few: right, and its count is passed. The sum is judged before all else, since the last step forms it too.
+// That step answers here, so that the other, which goes on, is made for no last step: one form for both made every step slower.
 fn select_right(b: Bounds, j: u64, depth: u64, x: u64, passed: u64, f: Fork) -> Plan
     requires { ⌜ depth + 1 < 18446744073709551616 ⌝ }
     ensures { λ p. ⌜ p ≡ selectRight b j depth x passed f ⌝ }
@@ -68,6 +68,9 @@ fn select_right(b: Bounds, j: u64, depth: u64, x: u64, passed: u64, f: Fork) -> 
     if !is_within(passed, left_behind.count, b.cells) {
         return Plan::Damaged;
     }
+    if f.last {
+        return Plan::Keep(Next::Done(Answer::Cell(cell_at(x, b.cells))));
+    }
     select_next(
         b,
         j,
@@ -75,7 +78,7 @@ fn select_right(b: Bounds, j: u64, depth: u64, x: u64, passed: u64, f: Fork) -> 
         x,
         sum_within(passed, left_behind.count, b.cells),
         right,
-        f.last,
+        false,
     )
 }
 

@@ -12,7 +12,8 @@ use trie::Worker;
 
 // Steps a record where it lies: refusals 1, 3, 6 and 9.
 pub fn step_in_place(n: u64, w: &mut Worker, nodes: &mut [u64], versions: &mut [u64]) -> Progress
-    ensures { λ r. ⌜ _≡_ {A = Stepped} (record { told = progressOf r; worker = now (w .exit); nodes = now (nodes .exit); versions = now (versions .exit) }) (stepRecordOf n (now (w .entry)) (now (nodes .entry)) (now (versions .entry))) ⌝ }
+    ensures { λ r. ⌜ _≡_ {A = Stepped} (record { told = progressOf r; worker = now (w .exit); nodes = now (nodes .exit); versions = now (versions .exit) })
+        (stepRecordOf n (now (w .entry)) (now (nodes .entry)) (now (versions .entry))) ⌝ }
 {
     let moved = step_record(n, *w, nodes, versions);
     if has_moved(moved) {

@@ -13,7 +13,8 @@ use trie::Worker;
 
 // The tables are opened only where the board has a record for each worker: refusals 1, 2 and 3.
 fn open_manned(n: u64, w: u64, seats: usize, nodes: &mut [u64], versions: &mut [u64]) -> Accepted
-    ensures { λ r. ⌜ _≡_ {A = Opened} (record { told = acceptedOf r; nodes = now (nodes .exit); versions = now (versions .exit) }) (openMannedOf n w seats (now (nodes .entry)) (now (versions .entry))) ⌝ }
+    ensures { λ r. ⌜ _≡_ {A = Opened} (record { told = acceptedOf r; nodes = now (nodes .exit); versions = now (versions .exit) })
+        (openMannedOf n w seats (now (nodes .entry)) (now (versions .entry))) ⌝ }
 {
     if is_manned(w, seats) {
         return steps::open_tables(n, nodes, versions);
@@ -55,7 +56,8 @@ pub fn open(
     versions: &mut [u64],
     board: &mut [Worker],
 ) -> Accepted
-    ensures { λ r. ⌜ _≡_ {A = After Ok} (after (acceptedOf r) (state (now (nodes .exit)) (now (versions .exit)) (now (board .exit)))) (openOf n w (state (now (nodes .entry)) (now (versions .entry)) (now (board .entry)))) ⌝ }
+    ensures { λ r. ⌜ _≡_ {A = After Ok} (after (acceptedOf r) (state (now (nodes .exit)) (now (versions .exit)) (now (board .exit))))
+        (openOf n w (state (now (nodes .entry)) (now (versions .entry)) (now (board .entry)))) ⌝ }
 {
     let accepted = open_manned(n, w, board.len(), nodes, versions);
     rest(resting(accepted, w), board);

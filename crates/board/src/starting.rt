@@ -39,7 +39,8 @@ pub fn start(
     versions: &[u64],
     board: &mut [Worker],
 ) -> Accepted
-    ensures { λ r. ⌜ _≡_ {A = After Ok} (after (acceptedOf r) (state (now (nodes .entry)) (now (versions .entry)) (now (board .exit)))) (startOf n w i o (state (now (nodes .entry)) (now (versions .entry)) (now (board .entry)))) ⌝ }
+    ensures { λ r. ⌜ _≡_ {A = After Ok} (after (acceptedOf r) (state (now (nodes .entry)) (now (versions .entry)) (now (board .exit))))
+        (startOf n w i o (state (now (nodes .entry)) (now (versions .entry)) (now (board .entry)))) ⌝ }
 {
     let refusal = judge(n, w, i, nodes.len(), versions.len(), board.len());
     if refusal == 0 {

@@ -30,7 +30,8 @@ fn turn(
     board: &mut [Worker],
 ) -> Progress
     requires { ⌜ at < length (now board) ⌝ }
-    ensures { λ r. ⌜ _≡_ {A = After Course} (after (progressOf r) (state (now (nodes .exit)) (now (versions .exit)) (now (board .exit)))) (stepAt at (state (now (nodes .entry)) (now (versions .entry)) (now (board .entry))) (stepRecordOf n (getD (now (board .entry)) at idle) (now (nodes .entry)) (now (versions .entry)))) ⌝ }
+    ensures { λ r. ⌜ _≡_ {A = After Course} (after (progressOf r) (state (now (nodes .exit)) (now (versions .exit)) (now (board .exit))))
+        (stepAt at (state (now (nodes .entry)) (now (versions .entry)) (now (board .entry))) (stepRecordOf n (getD (now (board .entry)) at idle) (now (nodes .entry)) (now (versions .entry)))) ⌝ }
 {
     let moved = step_record(n, board[at], nodes, versions);
     if has_moved(moved) {
@@ -48,7 +49,8 @@ pub fn step(
     versions: &mut [u64],
     board: &mut [Worker],
 ) -> Progress
-    ensures { λ r. ⌜ _≡_ {A = After Course} (after (progressOf r) (state (now (nodes .exit)) (now (versions .exit)) (now (board .exit)))) (stepOf n w i (state (now (nodes .entry)) (now (versions .entry)) (now (board .entry)))) ⌝ }
+    ensures { λ r. ⌜ _≡_ {A = After Course} (after (progressOf r) (state (now (nodes .exit)) (now (versions .exit)) (now (board .exit))))
+        (stepOf n w i (state (now (nodes .entry)) (now (versions .entry)) (now (board .entry)))) ⌝ }
 {
     let refusal = judge(n, w, i, nodes.len(), versions.len(), board.len());
     if refusal != 0 {

@@ -39,7 +39,8 @@ fn serve_lines(
     out: &mut [u8],
 ) -> Place
     requires { ⌜ Roomy (now nodes) (now versions) × (widest * length (now chunk) ≤ length (now out)) ⌝ }
-    ensures { λ r. ⌜ Closes begun (now (chunk .entry)) (watch history (now (nodes .entry)) (now (versions .entry)) (now (board .entry))) (now (out .entry)) r (watch (r .history) (now (nodes .exit)) (now (versions .exit)) (now (board .exit))) (now (out .exit)) ⌝ }
+    ensures { λ r. ⌜ Closes begun (now (chunk .entry)) (watch history (now (nodes .entry)) (now (versions .entry)) (now (board .entry))) (now (out .entry)) r
+        (watch (r .history) (now (nodes .exit)) (now (versions .exit)) (now (board .exit))) (now (out .exit)) ⌝ }
 {
     let mut p = first_place(begun, history, chunk);
     while is_ended(p, chunk.len()) {
@@ -77,7 +78,8 @@ fn serve_bytes(
     out: &mut [u8],
 ) -> Served
     requires { ⌜ Roomy (now nodes) (now versions) × (widest * length (now chunk) ≤ length (now out)) ⌝ }
-    ensures { λ r. ⌜ _≡_ {A = Outcome} (record { begun = r .begun; watch = watch (r .history) (now (nodes .exit)) (now (versions .exit)) (r .board); out = now (out .exit); filled = r .filled }) (serveOf begun (watch history (now (nodes .entry)) (now (versions .entry)) board) (now (out .entry)) (now (chunk .entry))) ⌝ }
+    ensures { λ r. ⌜ _≡_ {A = Outcome} (record { begun = r .begun; watch = watch (r .history) (now (nodes .exit)) (now (versions .exit)) (r .board); out = now (out .exit); filled = r .filled })
+        (serveOf begun (watch history (now (nodes .entry)) (now (versions .entry)) board) (now (out .entry)) (now (chunk .entry))) ⌝ }
 {
     let mut b = board;
     let p = serve_lines(chunk, begun, history, nodes, versions, &mut b, out);
@@ -95,7 +97,8 @@ pub fn serve(
     versions: &mut [u64; VERSION_TABLE],
     out: &mut [u8; 1048576],
 ) -> Served
-    ensures { λ r. ⌜ _≡_ {A = Outcome} (record { begun = r .begun; watch = watch (r .history) (now (nodes .exit)) (now (versions .exit)) (r .board); out = now (out .exit); filled = r .filled }) (serveOf begun (watch history (now (nodes .entry)) (now (versions .entry)) board) (now (out .entry)) (take n (now (chunk .entry)))) ⌝ }
+    ensures { λ r. ⌜ _≡_ {A = Outcome} (record { begun = r .begun; watch = watch (r .history) (now (nodes .exit)) (now (versions .exit)) (r .board); out = now (out .exit); filled = r .filled })
+        (serveOf begun (watch history (now (nodes .entry)) (now (versions .entry)) board) (now (out .entry)) (take n (now (chunk .entry)))) ⌝ }
 {
     if n <= 16384 {
         return serve_bytes(first(chunk, n), begun, history, board, nodes, versions, out);
@@ -120,7 +123,8 @@ pub fn finish(
     versions: &mut [u64; VERSION_TABLE],
     out: &mut [u8; 1048576],
 ) -> Served
-    ensures { λ r. ⌜ _≡_ {A = Outcome} (record { begun = r .begun; watch = watch (r .history) (now (nodes .exit)) (now (versions .exit)) (r .board); out = now (out .exit); filled = r .filled }) (finishOf begun (watch history (now (nodes .entry)) (now (versions .entry)) board) (now (out .entry))) ⌝ }
+    ensures { λ r. ⌜ _≡_ {A = Outcome} (record { begun = r .begun; watch = watch (r .history) (now (nodes .exit)) (now (versions .exit)) (r .board); out = now (out .exit); filled = r .filled })
+        (finishOf begun (watch history (now (nodes .entry)) (now (versions .entry)) board) (now (out .entry))) ⌝ }
 {
     if begun.held == 0 {
         return Served {

@@ -95,7 +95,10 @@ pub(crate) fn serve_steps(
     out: &mut [u8],
 ) -> Run
     requires { ⌜ Roomy (now nodes) (now versions) × (widest * length (now chunk) ≤ length (now out)) × (opened h ≡ true) × Steady (now chunk) first ⌝ }
-    ensures { λ r. ⌜ Steady (now (chunk .entry)) r × (r .on ≡ false) × (first .on ≡ true → first .from < r .from) × ((begun : Begun) (s₀ : Watch) (out₀ : List ℕ) → Ran begun (now (chunk .entry)) s₀ out₀ first (watch h (now (nodes .entry)) (now (versions .entry)) (now (board .entry))) (now (out .entry)) → Ran begun (now (chunk .entry)) s₀ out₀ r (watch h (now (nodes .exit)) (now (versions .exit)) (now (board .exit))) (now (out .exit))) ⌝ }
+    ensures { λ r. ⌜ Steady (now (chunk .entry)) r × (r .on ≡ false) × (first .on ≡ true → first .from < r .from)
+        × ((begun : Begun) (s₀ : Watch) (out₀ : List ℕ)
+        → Ran begun (now (chunk .entry)) s₀ out₀ first (watch h (now (nodes .entry)) (now (versions .entry)) (now (board .entry))) (now (out .entry))
+        → Ran begun (now (chunk .entry)) s₀ out₀ r (watch h (now (nodes .exit)) (now (versions .exit)) (now (board .exit))) (now (out .exit))) ⌝ }
 {
     let n = cells_of(h);
     let w = workers_of(h);

@@ -53,7 +53,8 @@ fn carry(p: Plan, nodes: &mut [u64], versions: &mut [u64]) -> Moved
 // Each phase carries its plan out by itself: plans of all phases brought together first would be copied once more.
 fn turn(b: Bounds, phase: Phase, nodes: &mut [u64], versions: &mut [u64]) -> Moved
     requires { ⌜ (b .cells ≤ mostCells) × (b .height ≤ tallest) ⌝ }
-    ensures { λ r. ⌜ ((w : Worker) → steppedBy r w (now (nodes .exit)) (now (versions .exit)) ≡ carryOf (planOf b phase (now (nodes .entry)) (now (versions .entry))) w (now (nodes .entry)) (now (versions .entry))) ⌝ }
+    ensures { λ r. ⌜ ((w : Worker) → steppedBy r w (now (nodes .exit)) (now (versions .exit))
+        ≡ carryOf (planOf b phase (now (nodes .entry)) (now (versions .entry))) w (now (nodes .entry)) (now (versions .entry))) ⌝ }
 {
     if !is_used_sound(b) {
         return Moved::Refused(9);

@@ -21,7 +21,11 @@ is-within-requires-2 : tie.Need-is-within-requires-2
 is-within-requires-2 c κs = search needs
 
 returns-2 : tie.Need-returns-2
-returns-2 c = join-loud _ _ _ _ _ _ _ _ _ (c .before .before .before .before .before .before .load .ensures) (c .before .before .before .before .before .load2 .ensures) _ _ (c .before .before .before .is-within .ensures) (c .before .before .if1 .left) (c .before .is-within2 .ensures) (c .if2 .taken)
+returns-2 c =
+    let load = c .before .before .before .before .before .before .load in
+    let load2 = c .before .before .before .before .before .load2 in
+    join-loud _ _ _ _ _ _ _ _ _ (load .ensures) (load2 .ensures) _ _ (c .before .before .before .is-within .ensures) (c .before .before .if1 .left)
+    (c .before .is-within2 .ensures) (c .if2 .taken)
 
 sum-within-requires : tie.Need-sum-within-requires
 sum-within-requires c κs = search needs
@@ -36,7 +40,17 @@ place-sum-requires : tie.Need-place-sum-requires
 place-sum-requires c κs = search needs
 
 returns-3 : tie.Need-returns-3
-returns-3 c = join-places _ _ _ _ _ _ _ _ _ (c .before .before .before .before .before .before .before .before .before .before .load .ensures) (c .before .before .before .before .before .before .before .before .before .load2 .ensures) _ _ _ _ (c .before .before .before .before .before .before .before .is-within .ensures) (c .before .before .before .before .before .before .if1 .left) (c .before .before .before .before .before .is-within2 .ensures) (c .before .before .before .before .if2 .left) (c .before .word .ensures) (sum-named (c .before .before .before .before .before .before .before .before .before .before .before .before .before .args .b) (c .before .before .before .before .before .before .before .before .before .before .before .before .before .args .c) (c .before .word .result) (c .before .before .before .before .before .before .before .before .before .before .before .before .before .args .v) (c .before .before .before .before .before .before .before .before .before .before .before .before .before .args .l) (c .before .before .before .before .before .before .before .before .before .before .before .before .before .args .r) (c .before .before .before .before .before .before .before .before .before .before .load .result) (c .before .before .before .before .before .before .before .before .before .load2 .result) _ _ _ (summed (c .before .before .before .before .before .before .before .before .before .before .load .result .count) (c .before .before .before .before .before .before .before .before .before .load2 .result .count) (c .before .before .before .before .before .before .before .before .before .before .before .before .before .args .b .cells) _ _ (c .before .before .before .sum-within .ensures) (c .before .before .before .before .before .before .before .is-within .ensures) (c .before .before .before .before .before .before .if1 .left)) (summed (c .before .before .before .before .before .before .before .before .before .before .load .result .energy .0) (c .before .before .before .before .before .before .before .before .before .load2 .result .energy .0) (c .before .before .before .before .before .before .before .before .before .before .before .before .before .args .b .energy) _ _ (c .before .before .sum-within2 .ensures) (c .before .before .before .before .before .is-within2 .ensures) (c .before .before .before .before .if2 .left)) (c .place-sum .ensures))
+returns-3 c =
+    let given = c .before .before .before .before .before .before .before .before .before .before .before .before .before .args in
+    let load = c .before .before .before .before .before .before .before .before .before .before .load in
+    let load2 = c .before .before .before .before .before .before .before .before .before .load2 in
+    let is-within = c .before .before .before .before .before .before .before .is-within in
+    let if1 = c .before .before .before .before .before .before .if1 in
+    let is-within2 = c .before .before .before .before .before .is-within2 in
+    let if2 = c .before .before .before .before .if2 in
+    let word = c .before .word in
+    join-places _ _ _ _ _ _ _ _ _ (load .ensures) (load2 .ensures) _ _ _ _ (is-within .ensures) (if1 .left) (is-within2 .ensures) (if2 .left) (word .ensures)
+    (sum-named (given .b) (given .c) (word .result) (given .v) (given .l) (given .r) (load .result) (load2 .result) _ _ _ (summed (load .result .count) (load2 .result .count) (given .b .cells) _ _ (c .before .before .before .sum-within .ensures) (is-within .ensures) (if1 .left)) (summed (load .result .energy .0) (load2 .result .energy .0) (given .b .energy) _ _ (c .before .before .sum-within2 .ensures) (is-within2 .ensures) (if2 .left)) (c .place-sum .ensures))
 
 pub join-spec : {M : Type 1} → statement M
 join-spec =

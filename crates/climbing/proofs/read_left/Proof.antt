@@ -25,10 +25,17 @@ hold-requires : tie.Need-hold-requires
 hold-requires c κs = search needs
 
 returns-2 : tie.Need-returns-2
-returns-2 c = simp (sym (c .before .before .before .before .before .is-sound-in .ensures) ∙ not-false _ (c .before .before .before .before .if1 .left), ← c .before .before .before .before .before .before .word .ensures, sym (c .before .before .is-sound-in2 .ensures) ∙ c .before .if2 .taken, c .hold .ensures)
+returns-2 c =
+    let word = c .before .before .before .before .before .before .word in
+    let is-sound-in = c .before .before .before .before .before .is-sound-in in
+    simp
+    (sym (is-sound-in .ensures) ∙ not-false _ (c .before .before .before .before .if1 .left), ← word .ensures, sym (c .before .before .is-sound-in2 .ensures) ∙ c .before .if2 .taken, c .hold .ensures)
 
 returns-3 : tie.Need-returns-3
-returns-3 c = simp (sym (c .before .before .before .before .is-sound-in .ensures) ∙ not-false _ (c .before .before .before .if1 .left), ← c .before .before .before .before .before .word .ensures, sym (c .before .is-sound-in2 .ensures) ∙ c .if2 .left)
+returns-3 c =
+    let word = c .before .before .before .before .before .word in
+    let is-sound-in = c .before .before .before .before .is-sound-in in
+    simp (sym (is-sound-in .ensures) ∙ not-false _ (c .before .before .before .if1 .left), ← word .ensures, sym (c .before .is-sound-in2 .ensures) ∙ c .if2 .left)
 
 pub read-left-spec : {M : Type 1} → statement M
 read-left-spec =

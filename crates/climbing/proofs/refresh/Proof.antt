@@ -21,31 +21,55 @@ enum-known-held : tie.Need-enum-known-held
 enum-known-held c = search needs
 
 read-left-requires : tie.Need-read-left-requires
-read-left-requires c κs = climb-node (c .before .before .before .before .before .before .before .args .b) (c .before .before .before .before .before .before .before .args .c) _ (c .before .before .before .before .climb-fits .ensures) (c .before .before .before .if1 .left)
+read-left-requires c κs =
+    let given = c .before .before .before .before .before .before .before .args in
+    let climb-fits = c .before .before .before .before .climb-fits in
+    climb-node (given .b) (given .c) _ (climb-fits .ensures) (c .before .before .before .if1 .left)
 
 enum-known-held-2 : tie.Need-enum-known-held-2
 enum-known-held-2 c = search needs
 
 read-right-requires : tie.Need-read-right-requires
-read-right-requires c κs = climb-node (c .before .before .before .before .before .before .before .args .b) (c .before .before .before .before .before .before .before .args .c) _ (c .before .before .before .before .climb-fits .ensures) (c .before .before .before .if1 .left)
+read-right-requires c κs =
+    let given = c .before .before .before .before .before .before .before .args in
+    let climb-fits = c .before .before .before .before .climb-fits in
+    climb-node (given .b) (given .c) _ (climb-fits .ensures) (c .before .before .before .if1 .left)
 
 enum-known-held-3 : tie.Need-enum-known-held-3
 enum-known-held-3 c = search needs
 
 try-swap-requires : tie.Need-try-swap-requires
-try-swap-requires c κs = climb-node (c .before .before .before .before .before .before .before .args .b) (c .before .before .before .before .before .before .before .args .c) _ (c .before .before .before .before .climb-fits .ensures) (c .before .before .before .if1 .left)
+try-swap-requires c κs =
+    let given = c .before .before .before .before .before .before .before .args in
+    let climb-fits = c .before .before .before .before .climb-fits in
+    climb-node (given .b) (given .c) _ (climb-fits .ensures) (c .before .before .before .if1 .left)
 
 returns-2 : tie.Need-returns-2
-returns-2 c = refresh-by (c .before .before .before .before .before .before .before .args .b) (c .before .before .before .before .before .before .before .args .c) _ _ _ _ _ _ (c .before .before .before .before .climb-fits .ensures) (c .before .before .before .if1 .left) (c .before .enum-told .given .1) (c .read-node .ensures)
+returns-2 c =
+    let given = c .before .before .before .before .before .before .before .args in
+    let climb-fits = c .before .before .before .before .climb-fits in
+    refresh-by (given .b) (given .c) _ _ _ _ _ _ (climb-fits .ensures) (c .before .before .before .if1 .left) (c .before .enum-told .given .1) (c .read-node .ensures)
 
 returns-3 : tie.Need-returns-3
-returns-3 c = refresh-by (c .before .before .before .before .before .before .before .before .args .b) (c .before .before .before .before .before .before .before .before .args .c) _ _ _ _ _ _ (c .before .before .before .before .before .climb-fits .ensures) (c .before .before .before .before .if1 .left) (c .before .before .held .given .1) (c .read-left .ensures)
+returns-3 c =
+    let given = c .before .before .before .before .before .before .before .before .args in
+    let climb-fits = c .before .before .before .before .before .climb-fits in
+    refresh-by (given .b) (given .c) _ _ _ _ _ _ (climb-fits .ensures) (c .before .before .before .before .if1 .left) (c .before .before .held .given .1)
+    (c .read-left .ensures)
 
 returns-4 : tie.Need-returns-4
-returns-4 c = refresh-by (c .before .before .before .before .before .before .before .before .args .b) (c .before .before .before .before .before .before .before .before .args .c) _ _ _ _ _ _ (c .before .before .before .before .before .climb-fits .ensures) (c .before .before .before .before .if1 .left) (c .before .before .held2 .given .1) (c .read-right .ensures)
+returns-4 c =
+    let given = c .before .before .before .before .before .before .before .before .args in
+    let climb-fits = c .before .before .before .before .before .climb-fits in
+    refresh-by (given .b) (given .c) _ _ _ _ _ _ (climb-fits .ensures) (c .before .before .before .before .if1 .left) (c .before .before .held2 .given .1)
+    (c .read-right .ensures)
 
 returns-5 : tie.Need-returns-5
-returns-5 c = refresh-by (c .before .before .before .before .before .before .before .before .args .b) (c .before .before .before .before .before .before .before .before .args .c) _ _ _ _ _ _ (c .before .before .before .before .before .climb-fits .ensures) (c .before .before .before .before .if1 .left) (c .before .before .held3 .given .1) (c .try-swap .ensures)
+returns-5 c =
+    let given = c .before .before .before .before .before .before .before .before .args in
+    let climb-fits = c .before .before .before .before .before .climb-fits in
+    refresh-by (given .b) (given .c) _ _ _ _ _ _ (climb-fits .ensures) (c .before .before .before .before .if1 .left) (c .before .before .held3 .given .1)
+    (c .try-swap .ensures)
 
 pub refresh-spec : {M : Type 1} → statement M
 refresh-spec =

@@ -53,7 +53,10 @@ read-start-requires c κs = search needs
 
 returns-2 : tie.Need-returns-2
 unfolding commandOf
-returns-2 c = c .read-start .ensures ∙ simp (rest, sym (c .before .before .before .before .before .before .starts-with .ensures) ∙ c .before .before .before .before .before .if1 .left, sym (c .before .before .before .starts-with2 .ensures) ∙ c .before .before .if2 .taken)
+returns-2 c =
+    let starts-with = c .before .before .before .before .before .before .starts-with in
+    let if1 = c .before .before .before .before .before .if1 in
+    c .read-start .ensures ∙ simp (rest, sym (starts-with .ensures) ∙ if1 .left, sym (c .before .before .before .starts-with2 .ensures) ∙ c .before .before .if2 .taken)
 
 slice-aggregate-starts-with-3 : tie.Need-slice-aggregate-starts-with-3
 slice-aggregate-starts-with-3 c = search needs
@@ -78,11 +81,23 @@ open-requires c κs = search needs
 
 returns-3 : tie.Need-returns-3
 unfolding commandOf
-returns-3 c = c .«open» .ensures ∙ simp (c .before .read-three .ensures, rest, sym (c .before .before .before .before .before .before .before .before .before .before .starts-with .ensures) ∙ c .before .before .before .before .before .before .before .before .before .if1 .left, sym (c .before .before .before .before .before .before .before .starts-with2 .ensures) ∙ c .before .before .before .before .before .before .if2 .left, sym (c .before .before .before .before .starts-with3 .ensures) ∙ c .before .before .before .if3 .taken)
+returns-3 c =
+    let starts-with = c .before .before .before .before .before .before .before .before .before .before .starts-with in
+    let if1 = c .before .before .before .before .before .before .before .before .before .if1 in
+    let starts-with2 = c .before .before .before .before .before .before .before .starts-with2 in
+    let if2 = c .before .before .before .before .before .before .if2 in
+    let starts-with3 = c .before .before .before .before .starts-with3 in
+    c .«open» .ensures ∙ simp
+    (c .before .read-three .ensures, rest, sym (starts-with .ensures) ∙ if1 .left, sym (starts-with2 .ensures) ∙ if2 .left, sym (starts-with3 .ensures) ∙ c .before .before .before .if3 .taken)
 
 returns-4 : tie.Need-returns-4
 unfolding commandOf
-returns-4 c = simp (sym (c .before .before .before .before .before .before .before .starts-with .ensures) ∙ c .before .before .before .before .before .before .if1 .left, sym (c .before .before .before .before .starts-with2 .ensures) ∙ c .before .before .before .if2 .left, sym (c .before .starts-with3 .ensures) ∙ c .if3 .left)
+returns-4 c =
+    let starts-with = c .before .before .before .before .before .before .before .starts-with in
+    let if1 = c .before .before .before .before .before .before .if1 in
+    let starts-with2 = c .before .before .before .before .starts-with2 in
+    simp
+    (sym (starts-with .ensures) ∙ if1 .left, sym (starts-with2 .ensures) ∙ c .before .before .before .if2 .left, sym (c .before .starts-with3 .ensures) ∙ c .if3 .left)
 
 pub read-command-spec : {M : Type 1} → statement M
 read-command-spec =

@@ -33,7 +33,10 @@ returns-2 c = simp (sym (c .before .before .before .before .before .before .read
 
 returns-3 : tie.Need-returns-3
 unfolding firstOf
-returns-3 c = simp (sym (c .before .before .before .before .read-number .ensures) ∙ c .before .before .a .given .1, List·getD-eq-default (c .before .before .before .before .before .before .args .s .now) 0 (c .if1 .left))
+returns-3 c =
+    let given = c .before .before .before .before .before .before .args in
+    let read-number = c .before .before .before .before .read-number in
+    simp (sym (read-number .ensures) ∙ c .before .before .a .given .1, List·getD-eq-default (given .s .now) 0 (c .if1 .left))
 
 returns-4 : tie.Need-returns-4
 unfolding firstOf

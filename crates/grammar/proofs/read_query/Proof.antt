@@ -56,7 +56,12 @@ select-requires c κs = search needs
 
 returns-2 : tie.Need-returns-2
 unfolding queryOf
-returns-2 c = c .select .ensures ∙ simp (c .before .read-one2 .ensures, rest, sym (c .before .before .before .before .before .before .before .starts-with .ensures) ∙ c .before .before .before .before .before .before .if1 .left, sym (c .before .before .before .before .starts-with2 .ensures) ∙ c .before .before .before .if2 .taken)
+returns-2 c =
+    let starts-with = c .before .before .before .before .before .before .before .starts-with in
+    let if1 = c .before .before .before .before .before .before .if1 in
+    let starts-with2 = c .before .before .before .before .starts-with2 in
+    c .select .ensures ∙ simp
+    (c .before .read-one2 .ensures, rest, sym (starts-with .ensures) ∙ if1 .left, sym (starts-with2 .ensures) ∙ c .before .before .before .if2 .taken)
 
 slice-aggregate-starts-with-3 : tie.Need-slice-aggregate-starts-with-3
 slice-aggregate-starts-with-3 c = search needs
@@ -81,7 +86,14 @@ rank-requires c κs = search needs
 
 returns-3 : tie.Need-returns-3
 unfolding queryOf
-returns-3 c = c .rank .ensures ∙ simp (c .before .read-one3 .ensures, rest, sym (c .before .before .before .before .before .before .before .before .before .before .starts-with .ensures) ∙ c .before .before .before .before .before .before .before .before .before .if1 .left, sym (c .before .before .before .before .before .before .before .starts-with2 .ensures) ∙ c .before .before .before .before .before .before .if2 .left, sym (c .before .before .before .before .starts-with3 .ensures) ∙ c .before .before .before .if3 .taken)
+returns-3 c =
+    let starts-with = c .before .before .before .before .before .before .before .before .before .before .starts-with in
+    let if1 = c .before .before .before .before .before .before .before .before .before .if1 in
+    let starts-with2 = c .before .before .before .before .before .before .before .starts-with2 in
+    let if2 = c .before .before .before .before .before .before .if2 in
+    let starts-with3 = c .before .before .before .before .starts-with3 in
+    c .rank .ensures ∙ simp
+    (c .before .read-one3 .ensures, rest, sym (starts-with .ensures) ∙ if1 .left, sym (starts-with2 .ensures) ∙ if2 .left, sym (starts-with3 .ensures) ∙ c .before .before .before .if3 .taken)
 
 slice-aggregate-starts-with-4 : tie.Need-slice-aggregate-starts-with-4
 slice-aggregate-starts-with-4 c = search needs
@@ -94,11 +106,25 @@ total-requires c κs = search needs
 
 returns-4 : tie.Need-returns-4
 unfolding queryOf
-returns-4 c = c .total .ensures ∙ simp (sym (c .before .before .before .before .before .before .before .before .before .before .before .starts-with .ensures) ∙ c .before .before .before .before .before .before .before .before .before .before .if1 .left, sym (c .before .before .before .before .before .before .before .before .starts-with2 .ensures) ∙ c .before .before .before .before .before .before .before .if2 .left, sym (c .before .before .before .before .before .starts-with3 .ensures) ∙ c .before .before .before .before .if3 .left, sym (c .before .before .starts-with4 .ensures) ∙ c .before .if4 .taken)
+returns-4 c =
+    let starts-with = c .before .before .before .before .before .before .before .before .before .before .before .starts-with in
+    let if1 = c .before .before .before .before .before .before .before .before .before .before .if1 in
+    let starts-with2 = c .before .before .before .before .before .before .before .before .starts-with2 in
+    let if2 = c .before .before .before .before .before .before .before .if2 in
+    let starts-with3 = c .before .before .before .before .before .starts-with3 in
+    c .total .ensures ∙ simp
+    (sym (starts-with .ensures) ∙ if1 .left, sym (starts-with2 .ensures) ∙ if2 .left, sym (starts-with3 .ensures) ∙ c .before .before .before .before .if3 .left, sym (c .before .before .starts-with4 .ensures) ∙ c .before .if4 .taken)
 
 returns-5 : tie.Need-returns-5
 unfolding queryOf
-returns-5 c = simp (sym (c .before .before .before .before .before .before .before .before .before .before .starts-with .ensures) ∙ c .before .before .before .before .before .before .before .before .before .if1 .left, sym (c .before .before .before .before .before .before .before .starts-with2 .ensures) ∙ c .before .before .before .before .before .before .if2 .left, sym (c .before .before .before .before .starts-with3 .ensures) ∙ c .before .before .before .if3 .left, sym (c .before .starts-with4 .ensures) ∙ c .if4 .left)
+returns-5 c =
+    let starts-with = c .before .before .before .before .before .before .before .before .before .before .starts-with in
+    let if1 = c .before .before .before .before .before .before .before .before .before .if1 in
+    let starts-with2 = c .before .before .before .before .before .before .before .starts-with2 in
+    let if2 = c .before .before .before .before .before .before .if2 in
+    let starts-with3 = c .before .before .before .before .starts-with3 in
+    simp
+    (sym (starts-with .ensures) ∙ if1 .left, sym (starts-with2 .ensures) ∙ if2 .left, sym (starts-with3 .ensures) ∙ c .before .before .before .if3 .left, sym (c .before .starts-with4 .ensures) ∙ c .if4 .left)
 
 pub read-query-spec : {M : Type 1} → statement M
 read-query-spec =

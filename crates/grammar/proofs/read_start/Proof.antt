@@ -34,7 +34,9 @@ enum-told c = search needs
 
 returns : tie.Need-returns
 unfolding startsOf
-returns c = c .start .ensures ∙ simp (c .before .read-operation .ensures, rest, sym (c .before .before .before .before .before .before .read-number .ensures) ∙ c .before .before .before .before .worker .given .1)
+returns c =
+    let read-number = c .before .before .before .before .before .before .read-number in
+    c .start .ensures ∙ simp (c .before .read-operation .ensures, rest, sym (read-number .ensures) ∙ c .before .before .before .before .worker .given .1)
 
 returns-2 : tie.Need-returns-2
 unfolding startsOf

@@ -37,11 +37,17 @@ enum-told-2 c = search needs
 
 returns : tie.Need-returns
 unfolding twoOf
-returns c = simp (sym (c .before .before .before .before .before .before .before .before .read-first .ensures) ∙ c .before .before .before .before .before .before .a .given .1, sym (simp rest at (c .before .before .before .read-one .ensures)) ∙ c .before .b .given .1)
+returns c =
+    let read-first = c .before .before .before .before .before .before .before .before .read-first in
+    let a = c .before .before .before .before .before .before .a in
+    simp (sym (read-first .ensures) ∙ a .given .1, sym (simp rest at (c .before .before .before .read-one .ensures)) ∙ c .before .b .given .1)
 
 returns-2 : tie.Need-returns-2
 unfolding twoOf
-returns-2 c = simp (sym (c .before .before .before .before .before .before .before .read-first .ensures) ∙ c .before .before .before .before .before .a .given .1, sym (simp rest at (c .before .before .read-one .ensures)) ∙ c .enum-told .given .1)
+returns-2 c =
+    let read-first = c .before .before .before .before .before .before .before .read-first in
+    simp
+    (sym (read-first .ensures) ∙ c .before .before .before .before .before .a .given .1, sym (simp rest at (c .before .before .read-one .ensures)) ∙ c .enum-told .given .1)
 
 returns-3 : tie.Need-returns-3
 unfolding twoOf

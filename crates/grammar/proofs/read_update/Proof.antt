@@ -56,7 +56,12 @@ delete-requires c κs = search needs
 
 returns-2 : tie.Need-returns-2
 unfolding updateOf
-returns-2 c = c .delete .ensures ∙ simp (c .before .read-one .ensures, rest, sym (c .before .before .before .before .before .before .before .starts-with .ensures) ∙ c .before .before .before .before .before .before .if1 .left, sym (c .before .before .before .before .starts-with2 .ensures) ∙ c .before .before .before .if2 .taken)
+returns-2 c =
+    let starts-with = c .before .before .before .before .before .before .before .starts-with in
+    let if1 = c .before .before .before .before .before .before .if1 in
+    let starts-with2 = c .before .before .before .before .starts-with2 in
+    c .delete .ensures ∙ simp
+    (c .before .read-one .ensures, rest, sym (starts-with .ensures) ∙ if1 .left, sym (starts-with2 .ensures) ∙ c .before .before .before .if2 .taken)
 
 returns-3 : tie.Need-returns-3
 unfolding updateOf

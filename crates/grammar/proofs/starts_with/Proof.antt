@@ -36,7 +36,11 @@ loop-less : tie.Need-loop-less Inv-loop μ-loop
 loop-less c = search needs
 
 loop-again : tie.Need-loop-again Inv-loop μ-loop
-loop-again c = (omega (arith, c .before .before .loop-test .taken), starts-more (c .before .before .before .before .before .args .word .now) (c .before .before .before .before .before .args .s .now) _ (c .before .before .before .loop .same) _ (c .before .before .loop-test .taken) (c .before .before .before .before .if1 .left) (c .before .before .before .loop .inv .1))
+loop-again c =
+    let given = c .before .before .before .before .before .args in
+    let loop = c .before .before .before .loop in
+    let loop-test = c .before .before .loop-test in
+    (omega (arith, loop-test .taken), starts-more (given .word .now) (given .s .now) _ (loop .same) _ (loop-test .taken) (c .before .before .before .before .if1 .left) (loop .inv .1))
 
 returns-2 : tie.Need-returns-2 Inv-loop μ-loop
 returns-2 c = starts-done _ _ _ _ _ (c .loop-test .left) (c .before .loop .inv .1)

@@ -24,11 +24,19 @@ is-roomy-requires c κs = let r = sized _ (sym (c .before .before .is-allowed .e
 
 returns-3 : tie.Need-returns-3
 unfolding absentOf
-returns-3 c = simp (sym (c .before .before .before .before .is-allowed .ensures) ∙ not-false _ (c .before .before .before .if1 .left), not-false (c .before .before .before .before .before .args .manned) (c .before .before .if2 .left), sym (c .before .is-roomy .ensures) ∙ c .if3 .taken)
+returns-3 c =
+    let given = c .before .before .before .before .before .args in
+    let is-allowed = c .before .before .before .before .is-allowed in
+    simp
+    (sym (is-allowed .ensures) ∙ not-false _ (c .before .before .before .if1 .left), not-false (given .manned) (c .before .before .if2 .left), sym (c .before .is-roomy .ensures) ∙ c .if3 .taken)
 
 returns-4 : tie.Need-returns-4
 unfolding absentOf
-returns-4 c = simp (sym (c .before .before .before .before .is-allowed .ensures) ∙ not-false _ (c .before .before .before .if1 .left), not-false (c .before .before .before .before .before .args .manned) (c .before .before .if2 .left), sym (c .before .is-roomy .ensures) ∙ c .if3 .left)
+returns-4 c =
+    let given = c .before .before .before .before .before .args in
+    let is-allowed = c .before .before .before .before .is-allowed in
+    simp
+    (sym (is-allowed .ensures) ∙ not-false _ (c .before .before .before .if1 .left), not-false (given .manned) (c .before .before .if2 .left), sym (c .before .is-roomy .ensures) ∙ c .if3 .left)
 
 pub judge-absent-spec : {M : Type 1} → statement M
 judge-absent-spec =

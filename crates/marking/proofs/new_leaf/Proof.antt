@@ -30,10 +30,15 @@ leaf-version-requires-3 : tie.Need-leaf-version-requires-3
 leaf-version-requires-3 c κs = search needs
 
 returns : tie.Need-returns
-returns c = new-marked _ _ _ _ _ (c .before .before .before .before .before .before .before .before .pre) (c .before .before .before .before .before .before .u .given .1) (c .before .before .before .before .convert .ensures) _ _ (c .before .before .energy .given .1) (c .leaf-version .ensures)
+returns c =
+    let asked = c .before .before .before .before .before .before .before .before .pre in
+    let u = c .before .before .before .before .before .before .u in
+    new-marked _ _ _ _ _ (asked) (u .given .1) (c .before .before .before .before .convert .ensures) _ _ (c .before .before .energy .given .1) (c .leaf-version .ensures)
 
 returns-2 : tie.Need-returns-2
-returns-2 c = never-loud _ _ _ _ _ (c .before .before .before .before .before .before .before .pre) (c .before .before .before .before .before .u .given .1) (c .before .before .before .convert .ensures) (c .before .enum-told .given .1)
+returns-2 c =
+    let asked = c .before .before .before .before .before .before .before .pre in
+    never-loud _ _ _ _ _ (asked) (c .before .before .before .before .before .u .given .1) (c .before .before .before .convert .ensures) (c .before .enum-told .given .1)
 
 returns-3 : tie.Need-returns-3
 returns-3 c = new-unmarked _ _ _ (c .before .enum-told2 .given .1) (c .leaf-version3 .ensures)

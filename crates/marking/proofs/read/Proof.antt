@@ -23,7 +23,9 @@ cell-requires : tie.Need-cell-requires
 cell-requires c κs = search needs
 
 add-leaf : tie.Need-add-leaf
-add-leaf c = omega (arith, c .cell .ensures, fits-cell (c .before .before .before .before .before .before .args .b .cells) (c .before .before .before .before .before .before .args .u) (sym (c .before .before .update-fits .ensures) ∙ not-false _ (c .before .if2 .left)))
+add-leaf c =
+    let given = c .before .before .before .before .before .before .args in
+    omega (arith, c .cell .ensures, fits-cell (given .b .cells) (given .u) (sym (c .before .before .update-fits .ensures) ∙ not-false _ (c .before .if2 .left)))
 
 word-requires : tie.Need-word-requires
 word-requires c κs = search needs
@@ -33,7 +35,11 @@ is-sound-in-requires c κs = search needs
 
 returns-3 : tie.Need-returns-3
 unfolding readOf
-returns-3 c = simp (le-leb _ _ (c .before .before .before .before .before .before .if1 .left), sym (c .before .before .before .before .before .update-fits .ensures) ∙ not-false _ (c .before .before .before .before .if2 .left), ← c .before .before .before .cell .ensures, ← c .before .before .word .ensures, sym (c .before .is-sound-in .ensures) ∙ not-true _ (c .if3 .taken))
+returns-3 c =
+    let if1 = c .before .before .before .before .before .before .if1 in
+    let update-fits = c .before .before .before .before .before .update-fits in
+    simp
+    (le-leb _ _ (if1 .left), sym (update-fits .ensures) ∙ not-false _ (c .before .before .before .before .if2 .left), ← c .before .before .before .cell .ensures, ← c .before .before .word .ensures, sym (c .before .is-sound-in .ensures) ∙ not-true _ (c .if3 .taken))
 
 load-requires : tie.Need-load-requires
 load-requires c κs = search needs
@@ -46,7 +52,16 @@ go-by-requires c κs = search needs
 
 returns-4 : tie.Need-returns-4
 unfolding readOf
-returns-4 c = simp (le-leb _ _ (c .before .before .before .before .before .before .before .before .before .if1 .left), sym (c .before .before .before .before .before .before .before .before .update-fits .ensures) ∙ not-false _ (c .before .before .before .before .before .before .before .if2 .left), ← c .before .before .before .before .before .before .cell .ensures, ← c .before .before .before .before .before .word .ensures, sym (c .before .before .before .before .is-sound-in .ensures) ∙ not-false _ (c .before .before .before .if3 .left), ← c .before .before .load .ensures, ← c .before .is-as-wanted .ensures) (c .go-by .ensures)
+returns-4 c =
+    let if1 = c .before .before .before .before .before .before .before .before .before .if1 in
+    let update-fits = c .before .before .before .before .before .before .before .before .update-fits in
+    let if2 = c .before .before .before .before .before .before .before .if2 in
+    let cell = c .before .before .before .before .before .before .cell in
+    let word = c .before .before .before .before .before .word in
+    let is-sound-in = c .before .before .before .before .is-sound-in in
+    simp
+    (le-leb _ _ (if1 .left), sym (update-fits .ensures) ∙ not-false _ (if2 .left), ← cell .ensures, ← word .ensures, sym (is-sound-in .ensures) ∙ not-false _ (c .before .before .before .if3 .left), ← c .before .before .load .ensures, ← c .before .is-as-wanted .ensures)
+    (c .go-by .ensures)
 
 pub read-spec : {M : Type 1} → statement M
 read-spec =

@@ -24,13 +24,18 @@ is-sound-in-requires c κs = search needs
 
 returns-3 : tie.Need-returns-3
 unfolding swapOf
-returns-3 c = simp (le-leb _ _ (c .before .before .before .before .if1 .left), sym (c .before .before .before .update-fits .ensures) ∙ not-false _ (c .before .before .if2 .left), sym (c .before .is-sound-in .ensures) ∙ not-true _ (c .if3 .taken))
+returns-3 c =
+    simp
+    (le-leb _ _ (c .before .before .before .before .if1 .left), sym (c .before .before .before .update-fits .ensures) ∙ not-false _ (c .before .before .if2 .left), sym (c .before .is-sound-in .ensures) ∙ not-true _ (c .if3 .taken))
 
 cell-requires : tie.Need-cell-requires
 cell-requires c κs = search needs
 
 add-leaf : tie.Need-add-leaf
-add-leaf c = omega (arith, c .cell .ensures, fits-cell (c .before .before .before .before .before .before .before .before .args .b .cells) (c .before .before .before .before .before .before .before .before .args .u) (sym (c .before .before .before .before .update-fits .ensures) ∙ not-false _ (c .before .before .before .if2 .left)))
+add-leaf c =
+    let given = c .before .before .before .before .before .before .before .before .args in
+    let update-fits = c .before .before .before .before .update-fits in
+    omega (arith, c .cell .ensures, fits-cell (given .b .cells) (given .u) (sym (update-fits .ensures) ∙ not-false _ (c .before .before .before .if2 .left)))
 
 word-requires : tie.Need-word-requires
 word-requires c κs = search needs
@@ -49,11 +54,28 @@ climb-from-requires-2 c κs = search needs
 
 returns-4 : tie.Need-returns-4
 unfolding swapOf
-returns-4 c = simp (le-leb _ _ (c .before .before .before .before .before .before .before .before .before .before .before .if1 .left), sym (c .before .before .before .before .before .before .before .before .before .before .update-fits .ensures) ∙ not-false _ (c .before .before .before .before .before .before .before .before .before .if2 .left), sym (c .before .before .before .before .before .before .before .before .is-sound-in .ensures) ∙ not-false _ (c .before .before .before .before .before .before .before .if3 .left), ← c .before .before .before .before .before .before .cell .ensures, ← c .before .before .before .before .before .word .ensures, eq-eqb _ _ (c .before .before .before .if4 .taken), ← c .before .before .new-leaf .ensures, ← c .before .climb-from .ensures) (c .plan-swap .ensures)
+returns-4 c =
+    let if1 = c .before .before .before .before .before .before .before .before .before .before .before .if1 in
+    let update-fits = c .before .before .before .before .before .before .before .before .before .before .update-fits in
+    let if2 = c .before .before .before .before .before .before .before .before .before .if2 in
+    let is-sound-in = c .before .before .before .before .before .before .before .before .is-sound-in in
+    let if3 = c .before .before .before .before .before .before .before .if3 in
+    let cell = c .before .before .before .before .before .before .cell in
+    let word = c .before .before .before .before .before .word in
+    simp
+    (le-leb _ _ (if1 .left), sym (update-fits .ensures) ∙ not-false _ (if2 .left), sym (is-sound-in .ensures) ∙ not-false _ (if3 .left), ← cell .ensures, ← word .ensures, eq-eqb _ _ (c .before .before .before .if4 .taken), ← c .before .before .new-leaf .ensures, ← c .before .climb-from .ensures)
+    (c .plan-swap .ensures)
 
 returns-5 : tie.Need-returns-5
 unfolding swapOf
-returns-5 c = simp (le-leb _ _ (c .before .before .before .before .before .before .before .before .before .if1 .left), sym (c .before .before .before .before .before .before .before .before .update-fits .ensures) ∙ not-false _ (c .before .before .before .before .before .before .before .if2 .left), sym (c .before .before .before .before .before .before .is-sound-in .ensures) ∙ not-false _ (c .before .before .before .before .before .if3 .left), ← c .before .before .before .before .cell .ensures, ← c .before .before .before .word .ensures, ne-eqb _ _ (c .before .if4 .left), c .climb-from2 .ensures)
+returns-5 c =
+    let if1 = c .before .before .before .before .before .before .before .before .before .if1 in
+    let update-fits = c .before .before .before .before .before .before .before .before .update-fits in
+    let if2 = c .before .before .before .before .before .before .before .if2 in
+    let is-sound-in = c .before .before .before .before .before .before .is-sound-in in
+    let if3 = c .before .before .before .before .before .if3 in
+    simp
+    (le-leb _ _ (if1 .left), sym (update-fits .ensures) ∙ not-false _ (if2 .left), sym (is-sound-in .ensures) ∙ not-false _ (if3 .left), ← c .before .before .before .before .cell .ensures, ← c .before .before .before .word .ensures, ne-eqb _ _ (c .before .if4 .left), c .climb-from2 .ensures)
 
 pub swap-spec : {M : Type 1} → statement M
 swap-spec =

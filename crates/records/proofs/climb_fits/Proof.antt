@@ -19,14 +19,23 @@ cell-requires : tie.Need-cell-requires
 cell-requires c κs = search needs
 
 add-is-above : tie.Need-add-is-above
-add-is-above c = let few = c .before .before .before .if1 .left in omega (arith, c .cell .ensures, fits-cell (c .before .before .before .before .before .args .b .cells) (c .before .before .before .before .before .args .c .update) (sym (c .before .before .update-fits .ensures) ∙ c .before .if2 .taken))
+add-is-above c =
+    let given = c .before .before .before .before .before .args in
+    let few = c .before .before .before .if1 .left in
+    omega (arith, c .cell .ensures, fits-cell (given .b .cells) (given .c .update) (sym (c .before .before .update-fits .ensures) ∙ c .before .if2 .taken))
 
 is-above-requires : tie.Need-is-above-requires
-is-above-requires c κs = omega (arith, c .cell .ensures, fits-cell (c .before .before .before .before .before .args .b .cells) (c .before .before .before .before .before .args .c .update) (sym (c .before .before .update-fits .ensures) ∙ c .before .if2 .taken))
+is-above-requires c κs =
+    let given = c .before .before .before .before .before .args in
+    omega (arith, c .cell .ensures, fits-cell (given .b .cells) (given .c .update) (sym (c .before .before .update-fits .ensures) ∙ c .before .if2 .taken))
 
 returns-2 : tie.Need-returns-2
 unfolding climbFits
-returns-2 c = simp (le-leb _ _ (c .before .before .before .before .before .before .if1 .left), sym (c .before .before .before .before .before .update-fits .ensures) ∙ c .before .before .before .before .if2 .taken, c .before .before .is-above .ensures, c .before .before .before .cell .ensures)
+returns-2 c =
+    let if1 = c .before .before .before .before .before .before .if1 in
+    let update-fits = c .before .before .before .before .before .update-fits in
+    simp
+    (le-leb _ _ (if1 .left), sym (update-fits .ensures) ∙ c .before .before .before .before .if2 .taken, c .before .before .is-above .ensures, c .before .before .before .cell .ensures)
 
 returns-3 : tie.Need-returns-3
 unfolding climbFits

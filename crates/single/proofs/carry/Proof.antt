@@ -42,7 +42,11 @@ same-length-2 : tie.Need-same-length-2
 same-length-2 c = search needs
 
 returns-3 : tie.Need-returns-3
-returns-3 c = carry-puts _ _ _ _ _ _ _ _ _ _ _ (c .before .before .before .before .before .before .before .before .before .before .before .before .before .before .p2 .given .1) (c .settle2 .ensures) (c .before .before .before .before .before .before .before .before .before .before .before .store .ensures) (c .before .before .before .before .before .before .before .put .ensures) (c .before .before .before .put2 .ensures)
+returns-3 c =
+    let p2 = c .before .before .before .before .before .before .before .before .before .before .before .before .before .before .p2 in
+    let store = c .before .before .before .before .before .before .before .before .before .before .before .store in
+    let put = c .before .before .before .before .before .before .before .put in
+    carry-puts _ _ _ _ _ _ _ _ _ _ _ (p2 .given .1) (c .settle2 .ensures) (store .ensures) (put .ensures) (c .before .before .before .put2 .ensures)
 
 pub carry-spec : {M : Type 1} → statement M
 carry-spec =

@@ -33,13 +33,20 @@ same-length-4 : tie.Need-same-length-4
 same-length-4 c = search needs
 
 returns-3 : tie.Need-returns-3
-returns-3 c = step-6 _ _ _ _ _ (c .before .before .before .before .before .before .before .is-allowed .ensures) (c .before .before .before .before .before .before .if1 .left) _ (c .before .before .before .is-roomy .ensures) (c .before .before .if2 .left) _ (c .before .is-busy .ensures) (c .if3 .taken)
+returns-3 c =
+    let is-allowed = c .before .before .before .before .before .before .before .is-allowed in
+    let if1 = c .before .before .before .before .before .before .if1 in
+    step-6 _ _ _ _ _ (is-allowed .ensures) (if1 .left) _ (c .before .before .before .is-roomy .ensures) (c .before .before .if2 .left) _ (c .before .is-busy .ensures)
+    (c .if3 .taken)
 
 bounds-requires : tie.Need-bounds-requires
 bounds-requires c κs = search needs
 
 turn-requires : tie.Need-turn-requires
-turn-requires c κs = bounds-fit _ _ _ _ _ (c .before .before .bounds .ensures) (c .before .before .before .before .before .before .before .before .before .before .before .before .is-allowed .ensures) (c .before .before .before .before .before .before .before .before .before .before .before .if1 .left)
+turn-requires c κs =
+    let is-allowed = c .before .before .before .before .before .before .before .before .before .before .before .before .is-allowed in
+    let if1 = c .before .before .before .before .before .before .before .before .before .before .before .if1 in
+    bounds-fit _ _ _ _ _ (c .before .before .bounds .ensures) (is-allowed .ensures) (if1 .left)
 
 same-length-5 : tie.Need-same-length-5
 same-length-5 c = search needs
@@ -48,7 +55,17 @@ same-length-6 : tie.Need-same-length-6
 same-length-6 c = search needs
 
 returns-4 : tie.Need-returns-4
-returns-4 c = step-turns _ _ _ _ _ (c .before .before .before .before .before .before .before .before .before .before .before .before .before .before .before .before .before .is-allowed .ensures) (c .before .before .before .before .before .before .before .before .before .before .before .before .before .before .before .before .if1 .left) _ (c .before .before .before .before .before .before .before .before .before .before .before .before .before .is-roomy .ensures) (c .before .before .before .before .before .before .before .before .before .before .before .before .if2 .left) _ (c .before .before .before .before .before .before .before .before .before .before .before .is-busy .ensures) _ (c .before .before .before .before .turn .result) _ _ (c .before .before .before .before .before .before .before .before .before .before .if3 .left) (c .before .before .before .before .before .before .before .bounds .ensures) (c .before .before .before .before .turn .ensures)
+returns-4 c =
+    let is-allowed = c .before .before .before .before .before .before .before .before .before .before .before .before .before .before .before .before .before .is-allowed in
+    let if1 = c .before .before .before .before .before .before .before .before .before .before .before .before .before .before .before .before .if1 in
+    let is-roomy = c .before .before .before .before .before .before .before .before .before .before .before .before .before .is-roomy in
+    let if2 = c .before .before .before .before .before .before .before .before .before .before .before .before .if2 in
+    let is-busy = c .before .before .before .before .before .before .before .before .before .before .before .is-busy in
+    let if3 = c .before .before .before .before .before .before .before .before .before .before .if3 in
+    let bounds = c .before .before .before .before .before .before .before .bounds in
+    let turn = c .before .before .before .before .turn in
+    step-turns _ _ _ _ _ (is-allowed .ensures) (if1 .left) _ (is-roomy .ensures) (if2 .left) _ (is-busy .ensures) _ (turn .result) _ _ (if3 .left) (bounds .ensures)
+    (turn .ensures)
 
 pub step-record-spec : {M : Type 1} → statement M
 step-record-spec =

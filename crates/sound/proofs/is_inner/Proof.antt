@@ -18,7 +18,12 @@ returns-2 : tie.Need-returns-2
 returns-2 c = not-second _ _ _ _ _ (c .before .before .before .is-numbered .ensures) (c .before .before .if1 .left) (c .before .is-numbered2 .ensures) (c .if2 .taken)
 
 returns-3 : tie.Need-returns-3
-returns-3 c = third _ _ _ _ _ (c .before .before .before .before .before .before .before .before .is-numbered .ensures) (c .before .before .before .before .before .before .before .if1 .left) (c .before .before .before .before .before .before .is-numbered2 .ensures) (c .before .before .before .before .before .if2 .left)
+returns-3 c =
+    let is-numbered = c .before .before .before .before .before .before .before .before .is-numbered in
+    let is-numbered2 = c .before .before .before .before .before .before .is-numbered2 in
+    let if1 = c .before .before .before .before .before .before .before .if1 in
+    let if2 = c .before .before .before .before .before .if2 in
+    third _ _ _ _ _ (is-numbered .ensures) (if1 .left) (is-numbered2 .ensures) (if2 .left)
 
 pub is-inner-spec : {M : Type 1} → statement M
 is-inner-spec =

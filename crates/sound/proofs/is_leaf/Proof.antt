@@ -15,7 +15,9 @@ mul-result-2 : tie.Need-mul-result-2
 mul-result-2 c = search needs
 
 returns-2 : tie.Need-returns-2
-returns-2 c = leaf-judged (c .before .before .before .before .before .args .r .left .0) (c .before .before .before .before .before .args .r .right .0) (c .before .before .before .before .before .args .r .count) (c .before .before .before .before .before .args .r .energy .0) (c .before .before .before .before .before .args .r .level .0) (c .before .before .before .before .if1 .left)
+returns-2 c =
+    let given = c .before .before .before .before .before .args in
+    leaf-judged (given .r .left .0) (given .r .right .0) (given .r .count) (given .r .energy .0) (given .r .level .0) (c .before .before .before .before .if1 .left)
 
 pub is-leaf-spec : {M : Type 1} → statement M
 is-leaf-spec = tie.close (tie.spec returns mul-result mul-result-2 returns-2)

@@ -13,10 +13,14 @@ is-inner-requires : tie.Need-is-inner-requires
 is-inner-requires c κs = search needs
 
 returns : tie.Need-returns
-returns c = chosen (c .before .before .args .leaf) (leafSound (c .before .before .args .r)) (innerSound (c .before .before .args .b) (c .before .before .args .r)) _ (c .before .if1 .taken) (c .is-leaf .ensures)
+returns c =
+    let given = c .before .before .args in
+    chosen (given .leaf) (leafSound (given .r)) (innerSound (given .b) (given .r)) _ (c .before .if1 .taken) (c .is-leaf .ensures)
 
 returns-2 : tie.Need-returns-2
-returns-2 c = other (c .before .before .args .leaf) (leafSound (c .before .before .args .r)) (innerSound (c .before .before .args .b) (c .before .before .args .r)) _ (c .before .if1 .left) (c .is-inner .ensures)
+returns-2 c =
+    let given = c .before .before .args in
+    other (given .leaf) (leafSound (given .r)) (innerSound (given .b) (given .r)) _ (c .before .if1 .left) (c .is-inner .ensures)
 
 pub is-placed-spec : {M : Type 1} → statement M
 is-placed-spec = tie.close (tie.spec is-leaf-requires is-inner-requires returns returns-2)

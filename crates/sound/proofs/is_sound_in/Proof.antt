@@ -20,7 +20,10 @@ is-placed-requires c κs = search needs
 
 returns : tie.Need-returns
 unfolding soundAt soundIn
-returns c = and-then _ _ _ _ (c .before .before .before .is-numbered .ensures) (c .before .before .if1 .taken) (c .is-placed .ensures ∙ ap (λ (r : Version). pick (c .before .before .before .before .before .args .leaf) (leafSound r) (innerSound (c .before .before .before .before .before .args .b) r)) (c .before .load .ensures))
+returns c =
+    let given = c .before .before .before .before .before .args in
+    and-then _ _ _ _ (c .before .before .before .is-numbered .ensures) (c .before .before .if1 .taken)
+    (c .is-placed .ensures ∙ ap (λ (r : Version). pick (given .leaf) (leafSound r) (innerSound (given .b) r)) (c .before .load .ensures))
 
 returns-2 : tie.Need-returns-2
 unfolding soundAt soundIn

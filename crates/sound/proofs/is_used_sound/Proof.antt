@@ -14,7 +14,9 @@ add-result c = search needs
 
 returns : tie.Need-returns
 unfolding usedSound
-returns c = ap (λ (t : Bool). t && leb (c .before .before .before .before .args .b .used) (c .before .before .before .before .args .b .room)) (doubled-odd (c .before .before .before .before .args .b .cells) (c .before .before .before .before .args .b .used))
+returns c =
+    let given = c .before .before .before .before .args in
+    ap (λ (t : Bool). t && leb (given .b .used) (given .b .room)) (doubled-odd (given .b .cells) (given .b .used))
 
 pub is-used-sound-spec : {M : Type 1} → statement M
 is-used-sound-spec = tie.close (tie.spec add-result returns)

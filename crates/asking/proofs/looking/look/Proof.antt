@@ -33,10 +33,20 @@ is-sound-requires-3 : tie.Need-is-sound-requires-3
 is-sound-requires-3 c κs = search needs
 
 returns-2 : tie.Need-returns-2
-returns-2 c = look-sound _ _ _ _ _ _ (c .before .before .before .before .before .before .before .before .load .ensures) (c .before .before .before .before .before .load2 .ensures) (c .before .before .before .before .load3 .ensures) _ _ _ (c .before .before .before .is-sound .ensures) (c .before .before .is-sound2 .ensures) (c .before .is-sound3 .ensures) (c .before .before .before .before .before .before .before .before .before .before .if1 .left) (c .if2 .taken)
+returns-2 c =
+    let if1 = c .before .before .before .before .before .before .before .before .before .before .if1 in
+    let load = c .before .before .before .before .before .before .before .before .load in
+    let load2 = c .before .before .before .before .before .load2 in
+    look-sound _ _ _ _ _ _ (load .ensures) (load2 .ensures) (c .before .before .before .before .load3 .ensures) _ _ _ (c .before .before .before .is-sound .ensures)
+    (c .before .before .is-sound2 .ensures) (c .before .is-sound3 .ensures) (if1 .left) (c .if2 .taken)
 
 returns-3 : tie.Need-returns-3
-returns-3 c = look-unsound _ _ _ _ _ _ (c .before .before .before .before .before .before .before .before .load .ensures) (c .before .before .before .before .before .load2 .ensures) (c .before .before .before .before .load3 .ensures) _ _ _ (c .before .before .before .is-sound .ensures) (c .before .before .is-sound2 .ensures) (c .before .is-sound3 .ensures) (c .before .before .before .before .before .before .before .before .before .before .if1 .left) (c .if2 .left)
+returns-3 c =
+    let if1 = c .before .before .before .before .before .before .before .before .before .before .if1 in
+    let load = c .before .before .before .before .before .before .before .before .load in
+    let load2 = c .before .before .before .before .before .load2 in
+    look-unsound _ _ _ _ _ _ (load .ensures) (load2 .ensures) (c .before .before .before .before .load3 .ensures) _ _ _ (c .before .before .before .is-sound .ensures)
+    (c .before .before .is-sound2 .ensures) (c .before .is-sound3 .ensures) (if1 .left) (c .if2 .left)
 
 pub look-spec : {M : Type 1} → statement M
 look-spec =

@@ -21,7 +21,11 @@ enum-told : tie.Need-enum-told
 enum-told c = search needs
 
 returns : tie.Need-returns
-returns c = rank-many (c .before .before .before .before .before .before .args .b) (c .before .before .before .before .before .before .args .k) (c .before .before .before .before .before .before .args .depth) (c .before .before .before .before .before .before .args .right) (c .before .before .before .before .before .before .args .count) (c .before .before .before .before .before .before .args .energy) (c .before .before .before .before .before .before .args .f) _ (c .before .before .before .before .before .at-side .ensures) _ _ (c .before .before .before .reach .ensures) (c .before .before .reach2 .ensures) (c .enum-told .given .1)
+returns c =
+    let given = c .before .before .before .before .before .before .args in
+    let at-side = c .before .before .before .before .before .at-side in
+    rank-many (given .b) (given .k) (given .depth) (given .right) (given .count) (given .energy) (given .f) _ (at-side .ensures) _ _
+    (c .before .before .before .reach .ensures) (c .before .before .reach2 .ensures) (c .enum-told .given .1)
 
 enum-known-weighed : tie.Need-enum-known-weighed
 enum-known-weighed c = search needs
@@ -30,7 +34,13 @@ enum-told-2 : tie.Need-enum-told-2
 enum-told-2 c = search needs
 
 returns-2 : tie.Need-returns-2
-returns-2 c = rank-loud (c .before .before .before .before .before .before .before .before .before .args .b) (c .before .before .before .before .before .before .before .before .before .args .k) (c .before .before .before .before .before .before .before .before .before .args .depth) (c .before .before .before .before .before .before .before .before .before .args .right) (c .before .before .before .before .before .before .before .before .before .args .count) (c .before .before .before .before .before .before .before .before .before .args .energy) (c .before .before .before .before .before .before .before .before .before .args .f) _ (c .before .before .before .before .before .before .before .before .at-side .ensures) _ _ (c .before .before .before .before .before .before .reach .ensures) (c .before .before .before .before .before .reach2 .ensures) _ (c .before .before .before .counted .given .1) (c .enum-told2 .given .1)
+returns-2 c =
+    let given = c .before .before .before .before .before .before .before .before .before .args in
+    let at-side = c .before .before .before .before .before .before .before .before .at-side in
+    let reach = c .before .before .before .before .before .before .reach in
+    let reach2 = c .before .before .before .before .before .reach2 in
+    rank-loud (given .b) (given .k) (given .depth) (given .right) (given .count) (given .energy) (given .f) _ (at-side .ensures) _ _ (reach .ensures) (reach2 .ensures) _
+    (c .before .before .before .counted .given .1) (c .enum-told2 .given .1)
 
 side-requires : tie.Need-side-requires
 side-requires c κs = search needs
@@ -39,7 +49,14 @@ rank-next-requires : tie.Need-rank-next-requires
 rank-next-requires c κs = search needs
 
 returns-3 : tie.Need-returns-3
-returns-3 c = rank-goes (c .before .before .before .before .before .before .before .before .before .before .before .before .args .b) (c .before .before .before .before .before .before .before .before .before .before .before .before .args .k) (c .before .before .before .before .before .before .before .before .before .before .before .before .args .depth) (c .before .before .before .before .before .before .before .before .before .before .before .before .args .right) (c .before .before .before .before .before .before .before .before .before .before .before .before .args .count) (c .before .before .before .before .before .before .before .before .before .before .before .before .args .energy) (c .before .before .before .before .before .before .before .before .before .before .before .before .args .f) _ (c .before .before .before .before .before .before .before .before .before .before .before .at-side .ensures) _ _ (c .before .before .before .before .before .before .before .before .before .reach .ensures) (c .before .before .before .before .before .before .before .before .reach2 .ensures) _ _ _ _ (c .before .before .before .before .before .before .counted .given .1) (c .before .before .before .weighed .given .1) (c .before .side .ensures) (c .rank-next .ensures)
+returns-3 c =
+    let given = c .before .before .before .before .before .before .before .before .before .before .before .before .args in
+    let at-side = c .before .before .before .before .before .before .before .before .before .before .before .at-side in
+    let reach = c .before .before .before .before .before .before .before .before .before .reach in
+    let reach2 = c .before .before .before .before .before .before .before .before .reach2 in
+    let counted = c .before .before .before .before .before .before .counted in
+    rank-goes (given .b) (given .k) (given .depth) (given .right) (given .count) (given .energy) (given .f) _ (at-side .ensures) _ _ (reach .ensures) (reach2 .ensures) _
+    _ _ _ (counted .given .1) (c .before .before .before .weighed .given .1) (c .before .side .ensures) (c .rank-next .ensures)
 
 pub rank-seen-spec : {M : Type 1} → statement M
 rank-seen-spec =

@@ -22,7 +22,10 @@ is-sound-in-requires c κs = search needs
 
 returns-2 : tie.Need-returns-2
 unfolding askOf
-returns-2 c = simp (sym (c .before .before .before .before .query-fits .ensures) ∙ not-false _ (c .before .before .before .if1 .left), ← c .before .before .word .ensures, sym (c .before .is-sound-in .ensures) ∙ not-true _ (c .if2 .taken))
+returns-2 c =
+    let query-fits = c .before .before .before .before .query-fits in
+    simp
+    (sym (query-fits .ensures) ∙ not-false _ (c .before .before .before .if1 .left), ← c .before .before .word .ensures, sym (c .before .is-sound-in .ensures) ∙ not-true _ (c .if2 .taken))
 
 load-requires : tie.Need-load-requires
 load-requires c κs = search needs
@@ -32,7 +35,12 @@ first-requires c κs = search needs
 
 returns-3 : tie.Need-returns-3
 unfolding askOf
-returns-3 c = simp (sym (c .before .before .before .before .before .before .query-fits .ensures) ∙ not-false _ (c .before .before .before .before .before .if1 .left), ← c .before .before .before .before .word .ensures, sym (c .before .before .before .is-sound-in .ensures) ∙ not-false _ (c .before .before .if2 .left), ← c .before .load .ensures) (c .first .ensures)
+returns-3 c =
+    let query-fits = c .before .before .before .before .before .before .query-fits in
+    let if1 = c .before .before .before .before .before .if1 in
+    simp
+    (sym (query-fits .ensures) ∙ not-false _ (if1 .left), ← c .before .before .before .before .word .ensures, sym (c .before .before .before .is-sound-in .ensures) ∙ not-false _ (c .before .before .if2 .left), ← c .before .load .ensures)
+    (c .first .ensures)
 
 pub ask-spec : {M : Type 1} → statement M
 ask-spec =

@@ -13,7 +13,10 @@ first-requires : tie.Need-first-requires
 first-requires c κs = search needs
 
 serve-bytes-requires : tie.Need-serve-bytes-requires
-serve-bytes-requires c κs = (search needs, omega (arith, ap length (c .before .before .before .first .ensures), length-take-le (c .before .before .before .before .before .before .args .n) (c .before .before .before .before .before .before .args .chunk .now) (omega (arith, c .before .before .before .before .before .before .good)), c .before .before .before .before .before .before .good))
+serve-bytes-requires c κs =
+    let given = c .before .before .before .before .before .before .args in
+    let good = c .before .before .before .before .before .before .good in
+    (search needs, omega (arith, ap length (c .before .before .before .first .ensures), length-take-le (given .n) (given .chunk .now) (omega (arith, good)), good))
 
 returns : tie.Need-returns
 returns c = c .serve-bytes .ensures ∙ ap (serveOf _ _ _) (c .before .before .before .before .first .ensures)
@@ -22,7 +25,11 @@ serve-bytes-requires-2 : tie.Need-serve-bytes-requires-2
 serve-bytes-requires-2 c κs = search needs
 
 returns-2 : tie.Need-returns-2
-returns-2 c = c .serve-bytes2 .ensures ∙ ap (serveOf _ _ _) (sym (take-all (c .before .before .before .before .before .before .args .n) (c .before .before .before .before .before .before .args .chunk .now) (omega (arith, c .before .before .before .before .before .if1 .left, c .before .before .before .before .before .before .good))))
+returns-2 c =
+    let given = c .before .before .before .before .before .before .args in
+    let good = c .before .before .before .before .before .before .good in
+    let if1 = c .before .before .before .before .before .if1 in
+    c .serve-bytes2 .ensures ∙ ap (serveOf _ _ _) (sym (take-all (given .n) (given .chunk .now) (omega (arith, if1 .left, good))))
 
 pub serve-spec : {M : Type 1} → statement M
 serve-spec =

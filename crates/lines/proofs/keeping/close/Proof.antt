@@ -26,7 +26,9 @@ keep-requires-2 : tie.Need-keep-requires-2
 keep-requires-2 c κs = search needs
 
 returns-2 : tie.Need-returns-2
-returns-2 c = c .keep2 .ensures ∙ ap begunOf (keeps-later (c .before .before .before .before .before .args .begun) (c .before .before .before .before .before .args .chunk .now) _ (c .before .before .if1 .left))
+returns-2 c =
+    let given = c .before .before .before .before .before .args in
+    c .keep2 .ensures ∙ ap begunOf (keeps-later (given .begun) (given .chunk .now) _ (c .before .before .if1 .left))
 
 pub close-spec : {M : Type 1} → statement M
 close-spec =

@@ -15,7 +15,10 @@ returns : tie.Need-returns
 returns c = sym (ap begunOf (keeps-over _ (c .before .before .args .s .now) (c .if1 .taken)))
 
 returns-2 : tie.Need-returns-2
-returns-2 c = let l : length (c .before .before .before .args .t1) ≡ 40 = omega (arith, c .before .before .before .good) in sym (ap begunOf (keeps-none _ (c .before .if1 .left) l (c .before .before .before .args .s .now) (omega arith)))
+returns-2 c =
+    let given = c .before .before .before .args in
+    let l : length (given .t1) ≡ 40 = omega (arith, c .before .before .before .good) in
+    sym (ap begunOf (keeps-none _ (c .before .if1 .left) l (given .s .now) (omega arith)))
 
 array-share-prefix-old : tie.Need-array-share-prefix-old
 array-share-prefix-old c = search needs
@@ -27,13 +30,20 @@ slice-aggregate-put-2 : tie.Need-slice-aggregate-put-2
 slice-aggregate-put-2 c = search needs
 
 put-requires : tie.Need-put-requires
-put-requires c κs = omega (arith, length-take-le (c .before .before .before .before .before .args .held) (c .before .before .before .before .before .args .t1) (omega (arith, c .before .before .before .before .before .good)))
+put-requires c κs =
+    let given = c .before .before .before .before .before .args in
+    let good = c .before .before .before .before .before .good in
+    omega (arith, length-take-le (given .held) (given .t1) (omega (arith, good)))
 
 slice-aggregate-put-3 : tie.Need-slice-aggregate-put-3
 slice-aggregate-put-3 c = search needs
 
 put-requires-2 : tie.Need-put-requires-2
-put-requires-2 c κs = omega (arith, c .before .before .put .ensures .ends, c .before .before .put, length-take-le (c .before .before .before .before .before .before .before .before .args .held) (c .before .before .before .before .before .before .before .before .args .t1) (omega (arith, c .before .before .before .before .before .before .before .before .good)))
+put-requires-2 c κs =
+    let given = c .before .before .before .before .before .before .before .before .args in
+    let good = c .before .before .before .before .before .before .before .before .good in
+    let put = c .before .before .put in
+    omega (arith, put .ensures .ends, put, length-take-le (given .held) (given .t1) (omega (arith, good)))
 
 returns-3 : tie.Need-returns-3
 returns-3 c =

@@ -21,7 +21,17 @@ begun-line-requires : tie.Need-begun-line-requires
 begun-line-requires c κs = search needs
 
 returns : tie.Need-returns
-returns c = record { begins = refl; history = refl; filled = refl; ends = c .before .before .before .before .before .line-end .ensures; line = c .begun-line .ensures ∙ ap lineAt (kept-part (c .before .before .before .before .before .before .before .args .begun) _ _ (c .before .before .keep .ensures)) }
+returns c =
+    let given = c .before .before .before .before .before .before .before .args in
+    let line-end = c .before .before .before .before .before .line-end in
+    record {
+      begins = refl;
+      history = refl;
+      filled = refl;
+      ends = line-end .ensures;
+      line = c .begun-line .ensures ∙ ap lineAt
+          (kept-part (given .begun) _ _ (c .before .before .keep .ensures));
+    }
 
 pub first-place-spec : {M : Type 1} → statement M
 first-place-spec =

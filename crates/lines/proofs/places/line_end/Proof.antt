@@ -33,7 +33,10 @@ loop-less : tie.Need-loop-less Inv-loop μ-loop
 loop-less c = search needs
 
 loop-again : tie.Need-loop-again Inv-loop μ-loop
-loop-again c = (omega arith, omega arith, plain-next (c .before .before .before .before .args .chunk .now) (c .before .before .before .before .args .from) (c .before .before .before .loop .i) (c .before .before .before .loop .inv .0) (c .before .before .loop-test .taken) (c .before .before .before .loop .inv .2) (c .if1 .left))
+loop-again c =
+    let given = c .before .before .before .before .args in
+    let loop = c .before .before .before .loop in
+    (omega arith, omega arith, plain-next (given .chunk .now) (given .from) (loop .i) (loop .inv .0) (c .before .before .loop-test .taken) (loop .inv .2) (c .if1 .left))
 
 returns-2 : tie.Need-returns-2 Inv-loop μ-loop
 returns-2 c = record { onward = c .before .loop .inv .0; within = c .before .loop .inv .1; bytes = c .before .loop .inv .2; newline = λ l. absurd (omega arith) }

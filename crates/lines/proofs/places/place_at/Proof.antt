@@ -18,7 +18,9 @@ whole-line-requires : tie.Need-whole-line-requires
 whole-line-requires c κs = search needs
 
 returns : tie.Need-returns
-returns c = placed-short (c .before .before .before .before .before .args .chunk .now) (c .before .before .before .before .before .args .from) (c .before .before .before .before .before .args .h) (c .before .before .before .before .before .args .filled) _ _ _ (c .before .before .before .short-step .ensures) (c .before .k .given .1)
+returns c =
+    let given = c .before .before .before .before .before .args in
+    placed-short (given .chunk .now) (given .from) (given .h) (given .filled) _ _ _ (c .before .before .before .short-step .ensures) (c .before .k .given .1)
 
 returns-2 : tie.Need-returns-2
 returns-2 c = search needs

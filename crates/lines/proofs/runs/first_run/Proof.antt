@@ -41,13 +41,21 @@ run-requires-4 : tie.Need-run-requires-4
 run-requires-4 c κs = search needs
 
 returns-2 : tie.Need-returns-2
-returns-2 c = c .run2 .ensures ∙ run-open (c .before .before .before .before .before .before .before .before .before .args .p) _ _ (c .before .is-open .ensures) ∙ run-of (c .before .before .before .before .before .before .before .before .before .args .p) _ (c .before .before .before .before .before .before .line .given .1 ∙ ap Line.Is (c .before .before .before .command .given .1))
+returns-2 c =
+    let given = c .before .before .before .before .before .before .before .before .before .args in
+    let line = c .before .before .before .before .before .before .line in
+    c .run2 .ensures ∙ run-open (given .p) _ _ (c .before .is-open .ensures) ∙ run-of (given .p) _
+    (line .given .1 ∙ ap Line.Is (c .before .before .before .command .given .1))
 
 returns-3 : tie.Need-returns-3
-returns-3 c = c .run3 .ensures ∙ run-of (c .before .before .before .before .before .before .before .args .p) _ (c .before .before .before .before .line .given .1 ∙ ap Line.Is (c .before .enum-told2 .given .1))
+returns-3 c =
+    let given = c .before .before .before .before .before .before .before .args in
+    c .run3 .ensures ∙ run-of (given .p) _ (c .before .before .before .before .line .given .1 ∙ ap Line.Is (c .before .enum-told2 .given .1))
 
 returns-4 : tie.Need-returns-4
-returns-4 c = c .run4 .ensures ∙ run-of (c .before .before .before .before .before .before .before .args .p) _ (c .before .before .before .before .line .given .1 ∙ ap Line.Is (c .before .enum-told3 .given .1))
+returns-4 c =
+    let given = c .before .before .before .before .before .before .before .args in
+    c .run4 .ensures ∙ run-of (given .p) _ (c .before .before .before .before .line .given .1 ∙ ap Line.Is (c .before .enum-told3 .given .1))
 
 pub first-run-spec : {M : Type 1} → statement M
 first-run-spec =

@@ -21,10 +21,15 @@ run-requires-2 : tie.Need-run-requires-2
 run-requires-2 c κs = search needs
 
 returns : tie.Need-returns
-returns c = follows-short (c .before .before .before .before .before .before .args .chunk .now) (c .before .before .before .before .before .before .args .from) (c .before .before .before .before .before .before .args .filled) _ _ _ _ (c .before .before .before .before .short-step .ensures) (c .before .before .k .given .1) (c .run .ensures)
+returns c =
+    let given = c .before .before .before .before .before .before .args in
+    let short-step = c .before .before .before .before .short-step in
+    follows-short (given .chunk .now) (given .from) (given .filled) _ _ _ _ (short-step .ensures) (c .before .before .k .given .1) (c .run .ensures)
 
 returns-2 : tie.Need-returns-2
-returns-2 c = follows-none (c .before .before .before .before .before .args .chunk .now) (c .before .before .before .before .before .args .from) (c .before .before .before .before .before .args .filled) _ (c .run2 .ensures)
+returns-2 c =
+    let given = c .before .before .before .before .before .args in
+    follows-none (given .chunk .now) (given .from) (given .filled) _ (c .run2 .ensures)
 
 pub next-step-spec : {M : Type 1} → statement M
 next-step-spec =

@@ -61,7 +61,10 @@ short-end-requires : tie.Need-short-end-requires
 short-end-requires c κs = search needs
 
 shared-slice-read-if4 : tie.Need-shared-slice-read-if4
-shared-slice-read-if4 c = omega (arith, end-most (not (eqb (getD (c .before .before .before .before .before .before .before .before .before .before .before .before .before .before .args .chunk .now) (c .before .before .before .before .before .before .before .before .before .before .before .before .before .before .args .i + 6) 0) 10)) (c .before .before .before .before .before .before .before .before .before .before .before .before .before .before .args .i) (c .before .short-end .result) (c .before .short-end .ensures))
+shared-slice-read-if4 c =
+    let given = c .before .before .before .before .before .before .before .before .before .before .before .before .before .before .args in
+    let short-end = c .before .short-end in
+    omega (arith, end-most (not (eqb (getD (given .chunk .now) (given .i + 6) 0) 10)) (given .i) (short-end .result) (short-end .ensures))
 
 returns-4 : tie.Need-returns-4
 returns-4 c = search needs
@@ -70,10 +73,27 @@ returns-5 : tie.Need-returns-5
 returns-5 c = search needs
 
 number-requires : tie.Need-number-requires
-number-requires c κs = (digit-most (c .before .before .before .before .before .before .before .before .before .before .wide .result) (c .before .before .before .before .before .before .before .before .before .digit .result) (c .before .before .before .before .before .before .before .before .before .digit .ensures), digit-most (c .before .before .before .before .before .wide2 .result) (c .before .before .before .before .digit2 .result) (c .before .before .before .before .digit2 .ensures))
+number-requires c κs =
+    let wide = c .before .before .before .before .before .before .before .before .before .before .wide in
+    let digit = c .before .before .before .before .before .before .before .before .before .digit in
+    let wide2 = c .before .before .before .before .before .wide2 in
+    let digit2 = c .before .before .before .before .digit2 in
+    (digit-most (wide .result) (digit .result) (digit .ensures), digit-most (wide2 .result) (digit2 .result) (digit2 .ensures))
 
 returns-6 : tie.Need-returns-6
-returns-6 c = short-found (c .before .before .before .before .before .before .before .before .before .before .before .before .before .before .before .before .before .args .chunk .now) (c .before .before .before .before .before .before .before .before .before .before .before .before .before .before .before .before .before .args .i) (omega arith) (sym (c .before .before .before .before .before .before .before .before .before .before .before .before .before .before .is-step .ensures) ∙ not-false _ (c .before .before .before .before .before .before .before .before .before .before .before .before .before .if2 .left)) (not (eqb (getD (c .before .before .before .before .before .before .before .before .before .before .before .before .before .before .before .before .before .args .chunk .now) (c .before .before .before .before .before .before .before .before .before .before .before .before .before .before .before .before .before .args .i + 6) 0) 10)) (c .before .before .before .before .before .before .before .before .before .before .before .wide .result) (c .before .before .before .before .before .before .wide2 .result) (c .before .before .before .before .before .before .before .before .before .before .digit .result) (c .before .before .before .before .before .digit2 .result) (c .number .result) (c .before .before .before .before .short-end .result) (c .before .before .before .before .before .before .before .before .before .before .before .wide .ensures) (c .before .before .before .before .before .before .before .before .before .before .digit .ensures) (c .before .before .before .before .before .before .before .before .before .if3 .left) (c .before .before .before .before .before .before .wide2 .ensures) (c .before .before .before .before .before .digit2 .ensures) (c .before .before .before .before .short-end .ensures) (c .before .before .if4 .left) (c .before .if5 .left) (c .number .ensures)
+returns-6 c =
+    let given = c .before .before .before .before .before .before .before .before .before .before .before .before .before .before .before .before .before .args in
+    let is-step = c .before .before .before .before .before .before .before .before .before .before .before .before .before .before .is-step in
+    let if2 = c .before .before .before .before .before .before .before .before .before .before .before .before .before .if2 in
+    let wide = c .before .before .before .before .before .before .before .before .before .before .before .wide in
+    let digit = c .before .before .before .before .before .before .before .before .before .before .digit in
+    let if3 = c .before .before .before .before .before .before .before .before .before .if3 in
+    let wide2 = c .before .before .before .before .before .before .wide2 in
+    let digit2 = c .before .before .before .before .before .digit2 in
+    let short-end = c .before .before .before .before .short-end in
+    short-found (given .chunk .now) (given .i) (omega arith) (sym (is-step .ensures) ∙ not-false _ (if2 .left)) (not (eqb (getD (given .chunk .now) (given .i + 6) 0) 10))
+    (wide .result) (wide2 .result) (digit .result) (digit2 .result) (c .number .result) (short-end .result) (wide .ensures) (digit .ensures) (if3 .left) (wide2 .ensures)
+    (digit2 .ensures) (short-end .ensures) (c .before .before .if4 .left) (c .before .if5 .left) (c .number .ensures)
 
 pub short-step-spec : {M : Type 1} → statement M
 short-step-spec =

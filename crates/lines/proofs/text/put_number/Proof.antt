@@ -22,7 +22,12 @@ same-length : tie.Need-same-length
 same-length c = search needs
 
 returns : tie.Need-returns
-returns c = (put-as _ _ _ _ _ _ (number-text (c .before .before .before .before .before .before .before .before .before .before .before .args .v)) (put-both _ _ _ _ _ _ _ _ (omega (arith, c .before .before .before .before .before .before .before .before .before .before .before .pre, c .before .before .before .before .before .before .before .spell .ensures .0 .ends, c .before .before .before .before .before .before .before .spell .ensures .1)) (c .before .before .before .before .before .before .before .spell .ensures .0) (c .before .before .put .ensures)), omega (arith, c .before .before .before .before .before .before .before .spell .ensures .1, c .before .before .put .ensures .ends))
+returns c =
+    let given = c .before .before .before .before .before .before .before .before .before .before .before .args in
+    let asked = c .before .before .before .before .before .before .before .before .before .before .before .pre in
+    let spell = c .before .before .before .before .before .before .before .spell in
+    let put = c .before .before .put in
+    (put-as _ _ _ _ _ _ (number-text (given .v)) (put-both _ _ _ _ _ _ _ _ (omega (arith, asked, spell .ensures .0 .ends, spell .ensures .1)) (spell .ensures .0) (put .ensures)), omega (arith, spell .ensures .1, put .ensures .ends))
 
 pub put-number-spec : {M : Type 1} → statement M
 put-number-spec =

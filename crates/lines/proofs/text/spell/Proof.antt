@@ -21,7 +21,13 @@ slice-aggregate-put : tie.Need-slice-aggregate-put
 slice-aggregate-put c = search needs
 
 put-requires-2 : tie.Need-put-requires-2
-put-requires-2 c κs = let h = twenty _ _ (c .before .before .before .before .before .before .before .before .before .before .fits .v .fits) (c .before .before .before .before .before .before .decimal .ensures .1 .0) in omega (arith, c .before .before .before .before .before .before .decimal .ensures .0, c .before .before .before .before .put .ensures .ends, c .before .before .before .before .put, c .before .before .before .out, c .before .before .before .before .before .before .before .before .before .before .pre)
+put-requires-2 c κs =
+    let fits = c .before .before .before .before .before .before .before .before .before .before .fits in
+    let asked = c .before .before .before .before .before .before .before .before .before .before .pre in
+    let decimal = c .before .before .before .before .before .before .decimal in
+    let put = c .before .before .before .before .put in
+    let h = twenty _ _ (fits .v .fits) (decimal .ensures .1 .0) in
+    omega (arith, decimal .ensures .0, put .ensures .ends, put, c .before .before .before .out, asked)
 
 same-length : tie.Need-same-length
 same-length c = search needs

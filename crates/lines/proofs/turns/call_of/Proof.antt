@@ -57,19 +57,39 @@ refused-requires-4 : tie.Need-refused-requires-4
 refused-requires-4 c κs = search needs
 
 returns-2 : tie.Need-returns-2
-returns-2 c = c .refused2 .ensures ∙ step-refused _ _ (c .before .before .before .before .before .before .before .args .h) (c .before .before .before .before .before .line .given .1) _ (c .before .enum-told2 .given .1)
+returns-2 c =
+    let given = c .before .before .before .before .before .before .before .args in
+    let line = c .before .before .before .before .before .line in
+    c .refused2 .ensures ∙ step-refused _ _ (given .h) (line .given .1) _ (c .before .enum-told2 .given .1)
 
 returns-3 : tie.Need-returns-3
-returns-3 c = c .call-for .ensures ∙ start-open _ _ (c .before .before .before .before .before .before .before .before .before .before .args .h) (c .before .before .before .before .before .before .before .before .line .given .1) _ _ (c .before .before .before .before .command .given .1) (sym (c .before .before .is-open .ensures) ∙ c .before .if1 .taken) _ (c .before .before .before .before .before .before .words .ensures)
+returns-3 c =
+    let given = c .before .before .before .before .before .before .before .before .before .before .args in
+    let line = c .before .before .before .before .before .before .before .before .line in
+    let words = c .before .before .before .before .before .before .words in
+    c .call-for .ensures ∙ start-open _ _ (given .h) (line .given .1) _ _ (c .before .before .before .before .command .given .1)
+    (sym (c .before .before .is-open .ensures) ∙ c .before .if1 .taken) _ (words .ensures)
 
 returns-4 : tie.Need-returns-4
-returns-4 c = c .refused3 .ensures ∙ start-closed _ _ (c .before .before .before .before .before .before .before .before .before .before .args .h) (c .before .before .before .before .before .before .before .before .line .given .1) _ _ (c .before .before .before .before .command .given .1) (sym (c .before .before .is-open .ensures) ∙ c .before .if1 .left)
+returns-4 c =
+    let given = c .before .before .before .before .before .before .before .before .before .before .args in
+    let line = c .before .before .before .before .before .before .before .before .line in
+    c .refused3 .ensures ∙ start-closed _ _ (given .h) (line .given .1) _ _ (c .before .before .before .before .command .given .1)
+    (sym (c .before .before .is-open .ensures) ∙ c .before .if1 .left)
 
 returns-5 : tie.Need-returns-5
-returns-5 c = c .call-for2 .ensures ∙ open-few _ _ (c .before .before .before .before .before .before .before .before .before .before .before .args .h) (c .before .before .before .before .before .before .before .before .before .line .given .1) _ _ _ (c .before .before .before .before .before .command2 .given .1) (c .before .before .before .if2 .taken) _ _ (c .before .before .words2 .ensures) (c .before .no-operation .ensures)
+returns-5 c =
+    let given = c .before .before .before .before .before .before .before .before .before .before .before .args in
+    let line = c .before .before .before .before .before .before .before .before .before .line in
+    let command2 = c .before .before .before .before .before .command2 in
+    c .call-for2 .ensures ∙ open-few _ _ (given .h) (line .given .1) _ _ _ (command2 .given .1) (c .before .before .before .if2 .taken) _ _
+    (c .before .before .words2 .ensures) (c .before .no-operation .ensures)
 
 returns-6 : tie.Need-returns-6
-returns-6 c = c .refused4 .ensures ∙ open-many _ _ (c .before .before .before .before .before .before .before .before .before .args .h) (c .before .before .before .before .before .before .before .line .given .1) _ _ _ (c .before .before .before .command2 .given .1) (c .before .if2 .left)
+returns-6 c =
+    let given = c .before .before .before .before .before .before .before .before .before .args in
+    let line = c .before .before .before .before .before .before .before .line in
+    c .refused4 .ensures ∙ open-many _ _ (given .h) (line .given .1) _ _ _ (c .before .before .before .command2 .given .1) (c .before .if2 .left)
 
 pub call-of-spec : {M : Type 1} → statement M
 call-of-spec =

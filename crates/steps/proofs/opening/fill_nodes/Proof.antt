@@ -36,7 +36,9 @@ loop-less : tie.Need-loop-less Inv-loop μ-loop
 loop-less c = omega arith
 
 loop-again : tie.Need-loop-again Inv-loop μ-loop
-loop-again c = (omega arith, filled-next _ _ _ _ _ _ (c .before .before .before .before .before .before .loop .inv .1) (c .before .before .before .first-node .ensures) (c .before .before .put .ensures))
+loop-again c =
+    let loop = c .before .before .before .before .before .before .loop in
+    (omega arith, filled-next _ _ _ _ _ _ (loop .inv .1) (c .before .before .before .first-node .ensures) (c .before .before .put .ensures))
 
 same-length : tie.Need-same-length Inv-loop μ-loop
 same-length c = ap length (c .before .loop .inv .1) ∙ filled-length _ _ _

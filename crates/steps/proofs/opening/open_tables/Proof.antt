@@ -29,7 +29,11 @@ fill-nodes-requires : tie.Need-fill-nodes-requires
 fill-nodes-requires c κs = let a = let-in _ _ (c .before .before .before .before .before .before .is-allowed .ensures) (c .before .before .before .before .before .if1 .left) in (omega arith, a .high)
 
 fill-versions-requires : tie.Need-fill-versions-requires
-fill-versions-requires c κs = let a = let-in _ _ (c .before .before .before .before .before .before .before .before .before .before .is-allowed .ensures) (c .before .before .before .before .before .before .before .before .before .if1 .left) in (omega arith, a .high)
+fill-versions-requires c κs =
+    let is-allowed = c .before .before .before .before .before .before .before .before .before .before .is-allowed in
+    let if1 = c .before .before .before .before .before .before .before .before .before .if1 in
+    let a = let-in _ _ (is-allowed .ensures) (if1 .left) in
+    (omega arith, a .high)
 
 same-length-3 : tie.Need-same-length-3
 same-length-3 c = search needs
@@ -38,7 +42,13 @@ same-length-4 : tie.Need-same-length-4
 same-length-4 c = search needs
 
 returns-3 : tie.Need-returns-3
-returns-3 c = open-fills _ _ _ _ (c .before .before .before .before .before .before .before .before .before .before .before .before .before .is-allowed .ensures) (c .before .before .before .before .before .before .before .before .before .before .before .before .if1 .left) _ (c .before .before .before .before .before .before .before .before .before .is-roomy .ensures) _ _ (c .before .before .before .before .before .before .before .before .if2 .left) (c .before .before .before .before .before .before .fill-nodes .ensures) (c .before .before .fill-versions .ensures)
+returns-3 c =
+    let is-allowed = c .before .before .before .before .before .before .before .before .before .before .before .before .before .is-allowed in
+    let if1 = c .before .before .before .before .before .before .before .before .before .before .before .before .if1 in
+    let is-roomy = c .before .before .before .before .before .before .before .before .before .is-roomy in
+    let if2 = c .before .before .before .before .before .before .before .before .if2 in
+    let fill-nodes = c .before .before .before .before .before .before .fill-nodes in
+    open-fills _ _ _ _ (is-allowed .ensures) (if1 .left) _ (is-roomy .ensures) _ _ (if2 .left) (fill-nodes .ensures) (c .before .before .fill-versions .ensures)
 
 pub open-tables-spec : {M : Type 1} → statement M
 open-tables-spec =

@@ -27,7 +27,9 @@ returns : tie.Need-returns
 returns c = grant-damaged _ _ _ _ _ (c .before .enum-told .given .1) (c .refuse .ensures)
 
 returns-2 : tie.Need-returns-2
-returns-2 c = grant-shares _ _ _ _ (c .share .result) _ _ (c .before .before .before .before .promised .given .1) (c .before .before .is-used-sound .ensures) (c .before .if1 .taken) (c .share .ensures)
+returns-2 c =
+    grant-shares _ _ _ _ (c .share .result) _ _ (c .before .before .before .before .promised .given .1) (c .before .before .is-used-sound .ensures)
+    (c .before .if1 .taken) (c .share .ensures)
 
 returns-3 : tie.Need-returns-3
 returns-3 c = grant-unsound _ _ _ _ _ _ _ (c .before .before .before .before .promised .given .1) (c .before .before .is-used-sound .ensures) (c .before .if1 .left) (c .refuse2 .ensures)

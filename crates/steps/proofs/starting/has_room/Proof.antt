@@ -9,7 +9,9 @@ is-within-requires : tie.Need-is-within-requires
 is-within-requires c κs = search needs
 
 returns : tie.Need-returns
-returns c = room-past (c .before .before .args .b .used) (c .before .before .args .promised) (c .before .before .args .b .share) (c .before .before .args .b .room) _ (c .before .is-within .ensures) (c .if1 .taken)
+returns c =
+    let given = c .before .before .args in
+    room-past (given .b .used) (given .promised) (given .b .share) (given .b .room) _ (c .before .is-within .ensures) (c .if1 .taken)
 
 sum-within-requires : tie.Need-sum-within-requires
 sum-within-requires c κs = search needs
@@ -18,7 +20,10 @@ is-within-requires-2 : tie.Need-is-within-requires-2
 is-within-requires-2 c κs = search needs
 
 returns-2 : tie.Need-returns-2
-returns-2 c = room-sum (c .before .before .before .before .args .b .used) (c .before .before .before .before .args .promised) (c .before .before .before .before .args .b .share) (c .before .before .before .before .args .b .room) _ _ _ (c .before .before .before .is-within .ensures) (c .before .before .if1 .left) (c .before .sum-within .ensures) (c .is-within2 .ensures)
+returns-2 c =
+    let given = c .before .before .before .before .args in
+    room-sum (given .b .used) (given .promised) (given .b .share) (given .b .room) _ _ _ (c .before .before .before .is-within .ensures) (c .before .before .if1 .left)
+    (c .before .sum-within .ensures) (c .is-within2 .ensures)
 
 pub has-room-spec : {M : Type 1} → statement M
 has-room-spec =

@@ -36,7 +36,10 @@ mul-versions-2 : tie.Need-mul-versions-2
 mul-versions-2 c = search needs
 
 slice-write-versions-2 : tie.Need-slice-write-versions-2
-slice-write-versions-2 c = in-version (c .before .before .args .versions .now) (set (c .before .before .args .versions .now) (5 * (c .before .before .args .v .0 - 1)) (c .before .before .args .r .left .0)) (c .before .before .args .v .0) 1 (length-set (c .before .before .args .versions .now) (5 * (c .before .before .args .v .0 - 1)) (c .before .before .args .r .left .0)) (c .before .if1 .left) (c .if2 .left) (omega arith)
+slice-write-versions-2 c =
+    let given = c .before .before .args in
+    in-version (given .versions .now) (set (given .versions .now) (5 * (given .v .0 - 1)) (given .r .left .0)) (given .v .0) 1
+    (length-set (given .versions .now) (5 * (given .v .0 - 1)) (given .r .left .0)) (c .before .if1 .left) (c .if2 .left) (omega arith)
 
 add-versions-2 : tie.Need-add-versions-2
 add-versions-2 c = search needs
@@ -45,7 +48,12 @@ mul-versions-3 : tie.Need-mul-versions-3
 mul-versions-3 c = search needs
 
 slice-write-versions-3 : tie.Need-slice-write-versions-3
-slice-write-versions-3 c = in-version (c .before .before .args .versions .now) (set (set (c .before .before .args .versions .now) (5 * (c .before .before .args .v .0 - 1)) (c .before .before .args .r .left .0)) (5 * (c .before .before .args .v .0 - 1) + 1) (c .before .before .args .r .right .0)) (c .before .before .args .v .0) 2 (length-set (set (c .before .before .args .versions .now) (5 * (c .before .before .args .v .0 - 1)) (c .before .before .args .r .left .0)) (5 * (c .before .before .args .v .0 - 1) + 1) (c .before .before .args .r .right .0) ∙ length-set (c .before .before .args .versions .now) (5 * (c .before .before .args .v .0 - 1)) (c .before .before .args .r .left .0)) (c .before .if1 .left) (c .if2 .left) (omega arith)
+slice-write-versions-3 c =
+    let given = c .before .before .args in
+    in-version (given .versions .now) (set (set (given .versions .now) (5 * (given .v .0 - 1)) (given .r .left .0)) (5 * (given .v .0 - 1) + 1) (given .r .right .0))
+    (given .v .0) 2
+    (length-set (set (given .versions .now) (5 * (given .v .0 - 1)) (given .r .left .0)) (5 * (given .v .0 - 1) + 1) (given .r .right .0) ∙ length-set (given .versions .now) (5 * (given .v .0 - 1)) (given .r .left .0))
+    (c .before .if1 .left) (c .if2 .left) (omega arith)
 
 add-versions-3 : tie.Need-add-versions-3
 add-versions-3 c = search needs
@@ -54,7 +62,13 @@ mul-versions-4 : tie.Need-mul-versions-4
 mul-versions-4 c = search needs
 
 slice-write-versions-4 : tie.Need-slice-write-versions-4
-slice-write-versions-4 c = in-version (c .before .before .args .versions .now) (set (set (set (c .before .before .args .versions .now) (5 * (c .before .before .args .v .0 - 1)) (c .before .before .args .r .left .0)) (5 * (c .before .before .args .v .0 - 1) + 1) (c .before .before .args .r .right .0)) (5 * (c .before .before .args .v .0 - 1) + 2) (c .before .before .args .r .count)) (c .before .before .args .v .0) 3 (length-set (set (set (c .before .before .args .versions .now) (5 * (c .before .before .args .v .0 - 1)) (c .before .before .args .r .left .0)) (5 * (c .before .before .args .v .0 - 1) + 1) (c .before .before .args .r .right .0)) (5 * (c .before .before .args .v .0 - 1) + 2) (c .before .before .args .r .count) ∙ length-set (set (c .before .before .args .versions .now) (5 * (c .before .before .args .v .0 - 1)) (c .before .before .args .r .left .0)) (5 * (c .before .before .args .v .0 - 1) + 1) (c .before .before .args .r .right .0) ∙ length-set (c .before .before .args .versions .now) (5 * (c .before .before .args .v .0 - 1)) (c .before .before .args .r .left .0)) (c .before .if1 .left) (c .if2 .left) (omega arith)
+slice-write-versions-4 c =
+    let given = c .before .before .args in
+    in-version (given .versions .now)
+    (set (set (set (given .versions .now) (5 * (given .v .0 - 1)) (given .r .left .0)) (5 * (given .v .0 - 1) + 1) (given .r .right .0)) (5 * (given .v .0 - 1) + 2) (given .r .count))
+    (given .v .0) 3
+    (length-set (set (set (given .versions .now) (5 * (given .v .0 - 1)) (given .r .left .0)) (5 * (given .v .0 - 1) + 1) (given .r .right .0)) (5 * (given .v .0 - 1) + 2) (given .r .count) ∙ length-set (set (given .versions .now) (5 * (given .v .0 - 1)) (given .r .left .0)) (5 * (given .v .0 - 1) + 1) (given .r .right .0) ∙ length-set (given .versions .now) (5 * (given .v .0 - 1)) (given .r .left .0))
+    (c .before .if1 .left) (c .if2 .left) (omega arith)
 
 add-versions-4 : tie.Need-add-versions-4
 add-versions-4 c = search needs
@@ -63,7 +77,13 @@ mul-versions-5 : tie.Need-mul-versions-5
 mul-versions-5 c = search needs
 
 slice-write-versions-5 : tie.Need-slice-write-versions-5
-slice-write-versions-5 c = in-version (c .before .before .args .versions .now) (set (set (set (set (c .before .before .args .versions .now) (5 * (c .before .before .args .v .0 - 1)) (c .before .before .args .r .left .0)) (5 * (c .before .before .args .v .0 - 1) + 1) (c .before .before .args .r .right .0)) (5 * (c .before .before .args .v .0 - 1) + 2) (c .before .before .args .r .count)) (5 * (c .before .before .args .v .0 - 1) + 3) (c .before .before .args .r .energy .0)) (c .before .before .args .v .0) 4 (length-set (set (set (set (c .before .before .args .versions .now) (5 * (c .before .before .args .v .0 - 1)) (c .before .before .args .r .left .0)) (5 * (c .before .before .args .v .0 - 1) + 1) (c .before .before .args .r .right .0)) (5 * (c .before .before .args .v .0 - 1) + 2) (c .before .before .args .r .count)) (5 * (c .before .before .args .v .0 - 1) + 3) (c .before .before .args .r .energy .0) ∙ length-set (set (set (c .before .before .args .versions .now) (5 * (c .before .before .args .v .0 - 1)) (c .before .before .args .r .left .0)) (5 * (c .before .before .args .v .0 - 1) + 1) (c .before .before .args .r .right .0)) (5 * (c .before .before .args .v .0 - 1) + 2) (c .before .before .args .r .count) ∙ length-set (set (c .before .before .args .versions .now) (5 * (c .before .before .args .v .0 - 1)) (c .before .before .args .r .left .0)) (5 * (c .before .before .args .v .0 - 1) + 1) (c .before .before .args .r .right .0) ∙ length-set (c .before .before .args .versions .now) (5 * (c .before .before .args .v .0 - 1)) (c .before .before .args .r .left .0)) (c .before .if1 .left) (c .if2 .left) (omega arith)
+slice-write-versions-5 c =
+    let given = c .before .before .args in
+    in-version (given .versions .now)
+    (set (set (set (set (given .versions .now) (5 * (given .v .0 - 1)) (given .r .left .0)) (5 * (given .v .0 - 1) + 1) (given .r .right .0)) (5 * (given .v .0 - 1) + 2) (given .r .count)) (5 * (given .v .0 - 1) + 3) (given .r .energy .0))
+    (given .v .0) 4
+    (length-set (set (set (set (given .versions .now) (5 * (given .v .0 - 1)) (given .r .left .0)) (5 * (given .v .0 - 1) + 1) (given .r .right .0)) (5 * (given .v .0 - 1) + 2) (given .r .count)) (5 * (given .v .0 - 1) + 3) (given .r .energy .0) ∙ length-set (set (set (given .versions .now) (5 * (given .v .0 - 1)) (given .r .left .0)) (5 * (given .v .0 - 1) + 1) (given .r .right .0)) (5 * (given .v .0 - 1) + 2) (given .r .count) ∙ length-set (set (given .versions .now) (5 * (given .v .0 - 1)) (given .r .left .0)) (5 * (given .v .0 - 1) + 1) (given .r .right .0) ∙ length-set (given .versions .now) (5 * (given .v .0 - 1)) (given .r .left .0))
+    (c .before .if1 .left) (c .if2 .left) (omega arith)
 
 same-length : tie.Need-same-length
 same-length c = search needs
