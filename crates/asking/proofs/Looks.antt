@@ -20,7 +20,7 @@ use Rattle.trie.specs.Size.{tallest}
 use Rattle.trie.specs.Tables.{version_at}
 use Rattle.trie.specs.Sound.{sound_at, sound_in}
 use Rattle.trie.specs.Asking.{look_of, last_at, seen, passed_of, reached_of, at_depth}
-use Rattle.trie.specs.SizeLaws.{and_first}
+use Rattle.trie.proofs.SizeLaws.{and_first}
 
 seen_holds : (t : Bool) (f g : Fork) → seen t f ≡ Seen.Sound g → t ≡ true
 seen_holds true f g e = refl

@@ -21,7 +21,7 @@ use Rattle.trie.specs.Choice.{pick}
 use Rattle.trie.specs.Size.{tallest}
 use Rattle.trie.specs.Leaf.{sure}
 use Rattle.trie.specs.Asking.{look_of, toward, towards, turns_right, passed_of, reached_of, rank_next, rank_seen, rank_of, select_seen, select_of}
-use Rattle.trie.specs.SizeLaws.{and_first, and_second}
+use Rattle.trie.proofs.SizeLaws.{and_first, and_second}
 use Rattle.asking.proofs.Looks.{look_depth, select_small}
 
 of_case : (t : Bool) (x n : ℕ) → pick t (Reached.Of x) Reached.Past ≡ Reached.Of n → t ≡ true

@@ -1,5 +1,7 @@
 // A query's plans: its reading of the root, and each further step down the versions.
 // Each function answers a plan and writes nothing.
+#![tactic(auto)]
+
 mod finding;
 mod looking;
 mod plans;

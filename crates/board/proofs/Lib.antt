@@ -1,3 +1,6 @@
+pub mod PromisingLaws
+pub mod OpeningLaws
+pub mod Decided
 -- What the walks of several functions use, and the laws by which they end.
 -- The first eight say nothing of this crate, and most of them are cited by others.
 pub mod Callee

@@ -14,7 +14,7 @@ use Rattle.trie.specs.Record.{idle}
 use Rattle.trie.specs.Values.{progress_of}
 use Rattle.trie.specs.Stepping.{Stepped, progress_by, worker_by, has_moved, stepped_by}
 use Rattle.trie.specs.Calls.{State, state, after, step_at}
-use Rattle.trie.specs.Decided.{stepped}
+use Rattle.trie.proofs.Decided.{stepped}
 
 -- a record that has not moved is as it was
 pub still : (r : Moved) (w : Worker) → T (not (has_moved r)) → w ≡ worker_by r w

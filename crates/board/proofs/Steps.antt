@@ -14,7 +14,7 @@ use Rattle.trie.specs.Record.{idle}
 use Rattle.trie.specs.Values.{progress_of}
 use Rattle.trie.specs.Stepping.{step_record_of}
 use Rattle.trie.specs.Calls.{State, state, after, step_at, step_of}
-use Rattle.judging.specs.JudgingLaws.{judged_of, seated, step_seated, step_refused}
+use Rattle.judging.proofs.JudgingLaws.{judged_of, seated, step_seated, step_refused}
 use Rattle.board.proofs.Tests.{fails, not_fails}
 
 module _ (n w i : ℕ) (nodes versions : List ℕ) (board : List Worker) (k : ℕ) (ek : k ≡ judged_of n w i nodes versions board) where

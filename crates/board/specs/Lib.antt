@@ -2,6 +2,3 @@
 -- Laws about them come after, and last that each contract leaves one answer.
 pub mod Promising
 pub mod Opening
-pub mod PromisingLaws
-pub mod OpeningLaws
-pub mod Decided

@@ -1,5 +1,7 @@
 // The public calls of document 01: open, start and step, on lent tables and a lent row of workers; and the step of one lent record.
 // A start or a step writes one worker's record, where it lies, and no other; an open rests the workers 0 to W - 1.
+#![tactic(auto)]
+
 mod in_place;
 mod moving;
 mod opening;

@@ -20,8 +20,8 @@ use Rattle.trie.specs.Tables.{version, version_at}
 use Rattle.trie.specs.Record.{update_fits, leaf_of, above, climb_fits}
 use Rattle.trie.specs.Leaf.{sure}
 use Rattle.trie.specs.Refreshing.{sum_of, place_sum, join_of, refresh_held, refresh_of}
-use Rattle.trie.specs.SizeLaws.{and_first, and_second}
-use Rattle.records.specs.Tests.{fits_cell}
+use Rattle.trie.proofs.SizeLaws.{and_first, and_second}
+use Rattle.records.proofs.Tests.{fits_cell}
 
 above_le : (d y x : ℕ) → above d y x ≡ true → x ≤ y
 unfolding above

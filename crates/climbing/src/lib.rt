@@ -1,5 +1,7 @@
 // A refresh of an inner node: three reads and a swap, and one second refresh where that swap fails.
 // Nothing is written here: each function answers a plan.
+#![tactic(auto)]
+
 ghost use Rattle.std.specs.Prelude.{◌≡◌, true, false, ◌+◌, ◌*◌, ◌≤◌, leb};
 ghost use Rattle.trie.specs.Size.{most_cells};
 ghost use Rattle.trie.specs.Leaf.{sure};

@@ -6,7 +6,7 @@ use Prim.Native.Nat.{ℕ, ◌+◌, ◌^◌, ◌≤◌}
 use lib.Dec.{T, leb, ltb, leb→le, ltb→lt}
 use Rattle.decibel.specs.Energy.{energy_of}
 use Rattle.decibel.specs.Conversion.{loudest}
-use Rattle.decibel.specs.Laws.{root_only}
+use Rattle.decibel.proofs.Laws.{root_only}
 use Rattle.decibel.proofs.Table.{and_left, and_right}
 
 unfoldable pub right : ℕ → ℕ → Bool

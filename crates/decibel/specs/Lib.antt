@@ -4,4 +4,3 @@ pub mod Told
 pub mod Energy
 pub mod Conversion
 pub mod Answer
-pub mod Laws

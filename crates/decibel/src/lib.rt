@@ -1,18 +1,20 @@
 // From levels, which are logarithms and must not be added, to energies, which add up.
 // The table is only a means: the contract states the rule, and no crate above sees an entry.
+#![tactic(auto)]
+
 ghost use Rattle.std.specs.Prelude.{◌≡◌};
 ghost use Rattle.decibel.specs.Conversion.{convert_of};
 ghost use Rattle.decibel.specs.Answer.{told_of};
 
 // Whole decibels over the floor.
-#[derive(Drop)]
+#[derive(Clone, Copy)]
 pub struct Level(pub u64);
 
 // A thousand at level 0, and ten times as much for every ten decibels.
-#[derive(Drop)]
+#[derive(Clone, Copy)]
 pub struct Energy(pub u64);
 
-#[derive(Drop)]
+#[derive(Clone, Copy)]
 pub enum Converted {
     TooLoud,
     Is(Energy),

@@ -1,5 +1,7 @@
 // Writes what the conversion answers for each level from 0 to 62: the energy, or the refusal's number.
 // The independent program second/energies.rs writes the same from the rule, and the gate compares the two.
+#![tactic(auto)]
+
 use decibel::{Converted, Level};
 use libc::STDOUT_FILENO;
 

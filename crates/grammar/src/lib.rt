@@ -1,5 +1,7 @@
 // One line of a listing, from bytes to a command. The grammar is that of specs/Grammar.antt, which the contracts cite.
 // A line that is none of the commands is a value of its own, so that no reader can forget it.
+#![tactic(auto)]
+
 ghost use Rattle.std.specs.Prelude.{◌≡◌};
 ghost use Rattle.grammar.specs.Grammar.{starts, ended, number_of, one_of, first_of, two_of, three_of, insert_of, delete_of, find_of, select_of, rank_of, total_of, update_of, query_of, operation_of, starts_of, start_of, step_of, open_of, command_of, line_of};
 

@@ -1,7 +1,5 @@
--- The third demand, in the order in which it is to be read: the statement stands first.
--- Then comes the proof, from the machine to the calls, and last that the statement is not about nothing.
-
--- the statement
+-- The third demand, in the order in which it is to be read: the statement.
+-- Its proof stands in proofs/.
 pub mod Lists
 pub mod Book
 pub mod Arrivals
@@ -9,55 +7,3 @@ pub mod Put
 pub mod Order
 pub mod Histories
 pub mod Theorem
--- that it says what the page says
-pub mod PageWords
--- the machine, and the facts that every step keeps
-pub mod ListLaws
-pub mod Nodes
-pub mod PutLaws
-pub mod Numbers
-pub mod Machine
-pub mod Replay
-pub mod Invariant
-pub mod Depicting
-pub mod Growth
-pub mod Building
-pub mod AtLeaf
-pub mod Once
-pub mod Refreshes
-pub mod RefreshSwap
-pub mod Kept
-pub mod Counted
--- the tables show the machine, and a query answers from the book
-pub mod View
-pub mod Viewed
-pub mod Whole
-pub mod Shows
-pub mod Judged
-pub mod Drawn
-pub mod Passes
-pub mod Simulation
-pub mod Turned
-pub mod Walks
-pub mod Walking
-pub mod Asked
-pub mod Beneath
-pub mod Opens
-pub mod Promise
-pub mod Starts
--- a moment of a history and the machine belong together
-pub mod Chronicle
-pub mod Placing
-pub mod Following
-pub mod Tied
-pub mod TiedCalls
-pub mod UpdateSteps
-pub mod QuerySteps
-pub mod StepCalls
-pub mod StartCalls
-pub mod OrderGrows
-pub mod OwnSteps
-pub mod Proof
--- that it is not empty
-pub mod Soundings
-pub mod Starred

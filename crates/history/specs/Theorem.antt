@@ -1,4 +1,4 @@
--- The third demand: what holds at every moment of every history. Its proof is in Proof.antt.
+-- The third demand: what holds at every moment of every history. Its proof is in proofs/EveryHistory.antt.
 -- Every name here leads to Lists, Book, Arrivals, Put, Order and Histories, and to the tree's own definitions. Assumes nothing.
 use Rattle.std.specs.Prelude.{◌≡◌, ◌≢◌, Bool, true, List, [], ◌∷◌, ◌++◌, ℕ, zero, suc, ◌+◌, ◌*◌, ◌/◌, ◌%◌, ◌^◌, ◌≤◌, ◌<◌, eqb}
 use Rattle.std.proofs.Math.Option.{Option, some, none}

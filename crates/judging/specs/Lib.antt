@@ -1,4 +1,3 @@
 -- The refusals that are told before anything is planned,
 -- and then the laws that say what each leaves of the three calls.
 pub mod Judging
-pub mod JudgingLaws

@@ -1,5 +1,7 @@
 // The refusals of a call that N, W, the worker's number and the lengths of what is lent decide: 1, 2, 3 and 4.
 // Where the board has such a worker the answer is 0, and 1 and 3 are left to the call on its record.
+#![tactic(auto)]
+
 ghost use Rattle.std.specs.Prelude.{◌≡◌, ◌≤◌};
 ghost use Rattle.trie.specs.Size.{most_cells};
 ghost use Rattle.judging.specs.Judging.{manned_by, room_by, roomy_by, absent_of, judge_of};

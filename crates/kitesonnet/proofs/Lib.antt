@@ -1,3 +1,11 @@
+pub mod RecordLaws
+pub mod StrictLaws
+pub mod PromisingLaws
+pub mod SeatLaws
+pub mod CallLaws
+pub mod SaidLaws
+pub mod Runs
+pub mod Decided
 -- What several functions of this crate use, in alphabetical order, for none of these needs another:
 -- how a call comes to what it comes to, and how a thing goes one further, as a loop has it.
 mod Comes

@@ -6,12 +6,4 @@ pub mod Reading
 pub mod Seats
 pub mod Answers
 pub mod Calls
-pub mod RecordLaws
-pub mod StrictLaws
 pub mod Promising
-pub mod PromisingLaws
-pub mod SeatLaws
-pub mod CallLaws
-pub mod SaidLaws
-pub mod Runs
-pub mod Decided

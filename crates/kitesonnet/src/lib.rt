@@ -1,5 +1,7 @@
 // The library that a boat's own program links: four calls on numbers and lent rows of words, for C and Rust.
 // A worker's record stands in twelve words of the board; any words whatever may be lent, and no caller has to check first.
+#![tactic(auto)]
+
 mod answers;
 mod converting;
 mod opening;

@@ -11,9 +11,9 @@ use lib.ListN.{length, take}
 use Rattle.decibel.specs.Told.{refused, gives}
 use Rattle.trie.specs.Choice.{pick}
 use Rattle.trie.specs.Size.{allowed, most_workers}
-use Rattle.trie.specs.SizeLaws.{and_first, and_both, sized}
+use Rattle.trie.proofs.SizeLaws.{and_first, and_both, sized}
 use Rattle.trie.specs.Tables.{width, roomy}
-use Rattle.trie.specs.TableLaws.{room_length, roomy_versions}
+use Rattle.trie.proofs.TableLaws.{room_length, roomy_versions}
 use Rattle.trie.specs.Values.{Ok}
 use Rattle.trie.specs.Calls.{State, After, check, manned, open_of}
 use Rattle.lines.specs.Watch.{Watch, history, most_cells, most_versions, opened, lent}

@@ -13,7 +13,7 @@ use Rattle.grammar.specs.declared.Command.{Command}
 use Rattle.grammar.specs.declared.Line.{Line}
 use Rattle.grammar.specs.Grammar.{starts, ended, digits, number_of, one_of, command_of, line_of}
 use Rattle.trie.specs.Choice.{pick}
-use Rattle.trie.specs.SizeLaws.{and_first, and_second}
+use Rattle.trie.proofs.SizeLaws.{and_first, and_second}
 use Rattle.lines.specs.declared.short.Short.{Short}
 use Rattle.lines.specs.Feeding.{plain, between}
 use Rattle.lines.specs.Places.{is_step, digit_of, Found}

@@ -17,7 +17,7 @@ use Rattle.trie.specs.declared.Progress.{Progress}
 use Rattle.trie.specs.declared.Worker.{Worker}
 use Rattle.trie.specs.Choice.{pick}
 use Rattle.trie.specs.Size.{allowed, most_workers}
-use Rattle.trie.specs.SizeLaws.{and_second}
+use Rattle.trie.proofs.SizeLaws.{and_second}
 use Rattle.trie.specs.Tables.{width, roomy}
 use Rattle.trie.specs.Values.{Ok, ok, Course, accepted_of, progress_of}
 use Rattle.trie.specs.Opening.{open_nodes, open_versions, open_board}

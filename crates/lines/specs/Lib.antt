@@ -7,5 +7,4 @@ pub mod Calling
 pub mod Chunks
 pub mod Feeding
 pub mod Places
-pub mod Decided
 pub mod Whole

@@ -1,5 +1,7 @@
 // Chunks of a listing in, the text of the answers out: all that the listing program does but read and write.
 // The definitions of specs/ follow document 01, "The listing program", and the contracts are equations with them.
+#![tactic(auto)]
+
 mod chunks;
 mod histories;
 mod keeping;

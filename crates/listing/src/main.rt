@@ -1,5 +1,7 @@
 // Runs a listing: reads a chunk of standard input, has it served, and writes the answers.
 // Nothing is kept but the line that is begun, the history and its tables, so the input may be of any length.
+#![tactic(auto)]
+
 ghost use Rattle.std.specs.Prelude.{◌≡◌};
 ghost use Rattle.lines.specs.Watch.{history};
 ghost use Rattle.lines.specs.Chunks.{zeros};

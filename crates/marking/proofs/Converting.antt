@@ -13,13 +13,13 @@ use Rattle.decibel.specs.Told.{Told, refused, gives}
 use Rattle.decibel.specs.Energy.{energy_of}
 use Rattle.decibel.specs.Conversion.{loudest, convert_of}
 use Rattle.decibel.specs.Answer.{told_of}
-use Rattle.decibel.specs.Laws.{converts}
+use Rattle.decibel.proofs.Laws.{converts}
 use Rattle.trie.specs.declared.Version.{Version}
 use Rattle.trie.specs.declared.Update.{Update}
 use Rattle.trie.specs.Tables.{version}
 use Rattle.trie.specs.Record.{update_fits}
 use Rattle.trie.specs.Leaf.{wanted}
-use Rattle.trie.specs.SizeLaws.{and_second}
+use Rattle.trie.proofs.SizeLaws.{and_second}
 
 module _ (n : ℕ) (u : Update) (k : ℕ) (level : Level) (answer : Converted) (fits : update_fits n u ≡ true) (is : u ≡ Update.Insert k level) (told : told_of answer ≡ convert_of level.0) where
   gives_energy : told_of answer ≡ gives (energy_of level.0)

@@ -1,5 +1,7 @@
 // An update at its leaf: the read, and the swap where the cell is not yet as wanted.
 // Nothing is written here: each function answers a plan.
+#![tactic(auto)]
+
 ghost use Rattle.std.specs.Prelude.{◌≡◌, true, false, ◌+◌, leb};
 ghost use Rattle.trie.specs.Choice.{pick};
 ghost use Rattle.trie.specs.Size.{most_cells};

@@ -1,4 +1,3 @@
 -- What the tests of a record say of it,
 -- and then whether it is at an update.
-pub mod Tests
 pub mod Phases

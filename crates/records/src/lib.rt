@@ -1,5 +1,7 @@
 // A worker's record: is it busy, are its numbers in range, and is it at an update.
 // What a phase has not read it does not hold, so few damaged records can be written down at all.
+#![tactic(auto)]
+
 ghost use Rattle.std.specs.Prelude.{◌≡◌, ◌&&◌, ◌≤◌, leb};
 ghost use Rattle.trie.specs.Size.{most_cells};
 ghost use Rattle.records.specs.Phases.{updating};

@@ -19,7 +19,7 @@ use Rattle.trie.specs.declared.Worker.{Worker}
 use Rattle.trie.specs.declared.Bounds.{Bounds}
 use Rattle.trie.specs.Choice.{pick}
 use Rattle.trie.specs.Size.{most_cells, tallest, height_of, allowed}
-use Rattle.trie.specs.SizeLaws.{sized}
+use Rattle.trie.proofs.SizeLaws.{sized}
 use Rattle.trie.specs.Tables.{version_put, roomy}
 use Rattle.trie.specs.Sound.{bounds_of, used_sound}
 use Rattle.trie.specs.Record.{busy}

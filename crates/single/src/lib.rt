@@ -1,5 +1,7 @@
 // One worker's record by itself: its step by value, judged and planned by its phase, then carried out.
 // All writing to the tables is in `carry`, so a refused step visibly changes nothing.
+#![tactic(auto)]
+
 ghost use Rattle.std.specs.Prelude.{◌≡◌, ◌≤◌};
 ghost use Rattle.trie.specs.declared.Worker.{Worker};
 ghost use Rattle.trie.specs.Size.{most_cells, tallest};

@@ -1,5 +1,7 @@
 // The bounds that a call is judged by, and whether a version may stand at a leaf or at an inner place.
 // Nothing is trusted here: any word may stand in a lent table.
+#![tactic(auto)]
+
 ghost use Rattle.std.specs.Prelude.{◌≡◌, ◌+◌, ◌≤◌, leb};
 ghost use Rattle.trie.specs.Choice.{pick};
 ghost use Rattle.trie.specs.Size.{most_cells};

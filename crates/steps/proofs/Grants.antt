@@ -22,7 +22,7 @@ use Rattle.trie.specs.Sound.{bounds_of, used_sound}
 use Rattle.trie.specs.Record.{busy, operation_fits}
 use Rattle.trie.specs.Values.{accepted_of}
 use Rattle.trie.specs.Starting.{Started, records, shared, granted, start_record_of}
-use Rattle.tables.specs.Tests.{Allowed, allowed_range}
+use Rattle.tables.proofs.Tests.{Allowed, allowed_range}
 
 -- the code's answer, as the definitions have it
 abbrev pub begun : Begun → Started

@@ -1,5 +1,7 @@
 // The calls that begin: opening the lent tables, and starting an operation in one record.
 // A start only records; what it needs to know of other workers is handed to it as one sum.
+#![tactic(auto)]
+
 mod opening;
 mod starting;
 

@@ -1,5 +1,7 @@
 // The lent tables: which numbers of cells are allowed, and the tables' words, versions and rooms.
 // Nothing here has a condition for its caller: any number may stand in a table, or for N.
+#![tactic(auto)]
+
 mod size;
 mod words;
 

@@ -1,5 +1,7 @@
 // The tree of cells: what its tables hold, what a worker's record holds, and what a call answers.
 // Node and version numbers, levels and energies are types of their own, so that none stands in for another.
+#![tactic(auto)]
+
 
 use decibel::{Energy, Level};
 
@@ -15,14 +17,14 @@ pub const MOST_VERSIONS: u64 = 1000000;
 pub const VERSION_WORDS: u64 = 5;
 
 // The root is 1, the children of x are 2x and 2x + 1, and cell k is node N + k.
-#[derive(Drop)]
+#[derive(Clone, Copy)]
 pub struct NodeNumber(pub u64);
 
 // Versions are numbered from 1; a leaf's version has 0 for left and right.
-#[derive(Drop)]
+#[derive(Clone, Copy)]
 pub struct VersionNumber(pub u64);
 
-#[derive(Drop)]
+#[derive(Clone, Copy)]
 pub struct Version {
     pub left: VersionNumber,
     pub right: VersionNumber,
@@ -32,13 +34,13 @@ pub struct Version {
 }
 
 // A change of one cell.
-#[derive(Drop)]
+#[derive(Clone, Copy)]
 pub enum Update {
     Insert(u64, Level),
     Delete(u64),
 }
 
-#[derive(Drop)]
+#[derive(Clone, Copy)]
 pub enum Query {
     Find(u64),
     Select(u64),
@@ -46,7 +48,7 @@ pub enum Query {
     Total,
 }
 
-#[derive(Drop)]
+#[derive(Clone, Copy)]
 pub enum Operation {
     Update(Update),
     Query(Query),
@@ -54,7 +56,7 @@ pub enum Operation {
 
 // An update on its way up: the inner node at which it is, the versions that it has made, its result, and whether this is its second refresh there.
 // The two bools stand last, where no other phase has a word: records are copied faster so.
-#[derive(Drop)]
+#[derive(Clone, Copy)]
 pub struct Climb {
     pub update: Update,
     pub node: NodeNumber,
@@ -64,7 +66,7 @@ pub struct Climb {
 }
 
 // What the present refresh has read: the node's version, then the left child's, then the right child's.
-#[derive(Drop)]
+#[derive(Clone, Copy)]
 pub enum Held {
     Nothing,
     Node(VersionNumber),
@@ -73,14 +75,14 @@ pub enum Held {
 }
 
 // Where a query stands: so many levels below the root, at this version. It has done one step more than its depth.
-#[derive(Drop)]
+#[derive(Clone, Copy)]
 pub struct Standing {
     pub depth: u64,
     pub version: VersionNumber,
 }
 
 // What a worker does next, with no more than it knows by then.
-#[derive(Drop)]
+#[derive(Clone, Copy)]
 pub enum Phase {
     Idle,
     Read(Update),
@@ -92,13 +94,13 @@ pub enum Phase {
     Select(u64, Standing, NodeNumber, u64),
 }
 
-#[derive(Drop)]
+#[derive(Clone, Copy)]
 pub struct Worker {
     pub phase: Phase,
 }
 
 // What an operation answers.
-#[derive(Drop)]
+#[derive(Clone, Copy)]
 pub enum Answer {
     Yes,
     No,
@@ -109,14 +111,14 @@ pub enum Answer {
 }
 
 // What open and start answer.
-#[derive(Drop)]
+#[derive(Clone, Copy)]
 pub enum Accepted {
     Refused(u64),
     Ok,
 }
 
 // What a step answers.
-#[derive(Drop)]
+#[derive(Clone, Copy)]
 pub enum Progress {
     Refused(u64),
     On,
@@ -124,7 +126,7 @@ pub enum Progress {
 }
 
 // A worker after its step: under way, or idle with its answer given.
-#[derive(Drop)]
+#[derive(Clone, Copy)]
 pub enum Next {
     On(Worker),
     Done(Answer),
@@ -132,7 +134,7 @@ pub enum Next {
 
 // What a step is going to do, before anything is written.
 // The worker after it stands first in both, at the same place, so that the two are copied alike.
-#[derive(Drop)]
+#[derive(Clone, Copy)]
 pub enum Plan {
     Damaged,
     Keep(Next),
@@ -140,14 +142,14 @@ pub enum Plan {
 }
 
 // What the busy updates of the board may still make; or one of them has made too many.
-#[derive(Drop)]
+#[derive(Clone, Copy)]
 pub enum Promised {
     Damaged,
     Of(u64),
 }
 
 // The numbers that a step is judged by: N, h, N times 10^9, 1 + h, the versions used, and V.
-#[derive(Drop)]
+#[derive(Clone, Copy)]
 pub struct Bounds {
     pub cells: u64,
     pub height: u64,
@@ -158,14 +160,14 @@ pub struct Bounds {
 }
 
 // N and both tables judged: refusal 1 or 3, or the bounds of a tree.
-#[derive(Drop)]
+#[derive(Clone, Copy)]
 pub enum Sized {
     Refused(u64),
     Of(Bounds),
 }
 
 // The two children of the version at which a query stands, and whether they are leaves.
-#[derive(Drop)]
+#[derive(Clone, Copy)]
 pub struct Fork {
     pub left: VersionNumber,
     pub at_left: Version,
@@ -174,14 +176,14 @@ pub struct Fork {
     pub last: bool,
 }
 
-#[derive(Drop)]
+#[derive(Clone, Copy)]
 pub enum Seen {
     Unsound,
     Sound(Fork),
 }
 
 // A running sum: within its bound, or past it.
-#[derive(Drop)]
+#[derive(Clone, Copy)]
 pub enum Reached {
     Past,
     Of(u64),
@@ -189,7 +191,7 @@ pub enum Reached {
 
 // What a step makes of a record: nothing, as it is refused; the record one step further on; or an answer, which leaves it idle.
 // The refusal's number is of one byte, so that it stands beside the record and not in its place: what is copied is shorter so.
-#[derive(Drop)]
+#[derive(Clone, Copy)]
 pub enum Moved {
     Refused(u8),
     On(Worker),
@@ -197,7 +199,7 @@ pub enum Moved {
 }
 
 // A record after a start, and what the start answers.
-#[derive(Drop)]
+#[derive(Clone, Copy)]
 pub struct Begun {
     pub accepted: Accepted,
     pub worker: Worker,

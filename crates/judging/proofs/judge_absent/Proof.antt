@@ -2,7 +2,7 @@
 -- Assumes nothing.
 use mathlib.Core.Path.{sym, ◌∙◌}
 use borrow.Author.Tests.{not-true, not-false}
-use Rattle.trie.specs.SizeLaws.{sized}
+use Rattle.trie.proofs.SizeLaws.{sized}
 use Rattle.judging.specs.Judging.{absent_of}
 use borrow.Author.Rules.{rules}
 use Rattle.judging.proofs.judge_absent.Statement.{statement}

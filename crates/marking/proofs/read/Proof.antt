@@ -4,7 +4,7 @@ use mathlib.Core.Path.{sym, ◌∙◌}
 use native.Mathlib.Omega.{arith}
 use borrow.Author.Tests.{not-true, not-false, le-leb, lt-leb}
 use Rattle.trie.specs.Leaf.{read_of}
-use Rattle.records.specs.Tests.{fits_cell}
+use Rattle.records.proofs.Tests.{fits_cell}
 use borrow.Author.Rules.{rules}
 use Rattle.marking.proofs.read.Statement.{statement}
 use Rattle.marking.proofs.read.Tie as tie

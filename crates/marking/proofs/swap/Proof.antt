@@ -4,7 +4,7 @@ use mathlib.Core.Path.{sym, ◌∙◌}
 use native.Mathlib.Omega.{arith}
 use borrow.Author.Tests.{not-true, not-false, le-leb, lt-leb, eq-eqb, ne_eqb}
 use Rattle.trie.specs.Leaf.{swap_of}
-use Rattle.records.specs.Tests.{fits_cell}
+use Rattle.records.proofs.Tests.{fits_cell}
 use borrow.Author.Rules.{rules}
 use Rattle.marking.proofs.swap.Statement.{statement}
 use Rattle.marking.proofs.swap.Tie as tie

@@ -4,7 +4,7 @@ use mathlib.Core.Path.{sym, ◌∙◌}
 use native.Mathlib.Omega.{arith}
 use borrow.Author.Tests.{le-leb, lt-leb}
 use Rattle.trie.specs.Record.{climb_fits}
-use Rattle.records.specs.Tests.{fits_cell}
+use Rattle.records.proofs.Tests.{fits_cell}
 use borrow.Author.Rules.{rules}
 use Rattle.records.proofs.climb_fits.Statement.{statement}
 use Rattle.records.proofs.climb_fits.Tie as tie

@@ -42,7 +42,7 @@ use denote.Exit.{yes}
 use Rattle.trie.specs.declared.Worker.{Worker}
 use Rattle.trie.specs.declared.Progress.{Progress}
 use Rattle.trie.specs.Stepping.{progress_by, worker_by, has_moved, stepped_by, step_record_of}
-use Rattle.trie.specs.Decided.{stepped}
+use Rattle.trie.proofs.Decided.{stepped}
 use Rattle.trie.specs.contracts.Progress as Pr
 use Rattle.trie.specs.contracts.Moved as Mo
 use Rattle.board.proofs.Callee.{contract_of, asks_none, calls_told, calls_plain}

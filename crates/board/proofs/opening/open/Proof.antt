@@ -41,7 +41,7 @@ use Rattle.trie.specs.Opening.{Opened, open_board}
 use Rattle.trie.specs.Calls.{after, state, open_of}
 use Rattle.trie.specs.contracts.Accepted as Ac
 use Rattle.board.specs.Opening.{open_manned_of, resting_of}
-use Rattle.board.specs.OpeningLaws.{opened_at, open_put, open_rests}
+use Rattle.board.proofs.OpeningLaws.{opened_at, open_put, open_rests}
 use Rattle.board.proofs.Callee.{contract_of, asks, asks_none, calls_told, calls_plain}
 use Rattle.board.proofs.Shared.{at_list}
 use Rattle.board.proofs.Elem.{R, accepted_makes, accepted_lawful}

@@ -47,8 +47,8 @@ use denote.Exit.{yes}
 use Rattle.trie.specs.declared.Worker.{Worker}
 use Rattle.trie.specs.Record.{idle}
 use Rattle.trie.specs.Opening.{open_board}
-use Rattle.trie.specs.OpenLaws.{open_board_length}
-use Rattle.board.specs.OpeningLaws.{rests_next, rests_none}
+use Rattle.trie.proofs.OpenLaws.{open_board_length}
+use Rattle.board.proofs.OpeningLaws.{rests_next, rests_none}
 use Rattle.board.proofs.Callee.{contract_of, calls_plain}
 use Rattle.board.proofs.Counting.{counts_up}
 use Rattle.board.proofs.Elem.{R, vals, tells, makes, lawful, bytes, step_fits}

@@ -2,7 +2,7 @@
 -- Assumes nothing.
 use native.Mathlib.Omega.{arith}
 use borrow.Author.Rules.{rules}
-use Rattle.board.specs.PromisingLaws.{one_at_most}
+use Rattle.board.proofs.PromisingLaws.{one_at_most}
 use Rattle.board.proofs.promising.count_in.Statement.{statement}
 use Rattle.board.proofs.promising.count_in.Tie as tie
 

@@ -51,7 +51,7 @@ use Rattle.trie.specs.Record.{idle, promised_of}
 use Rattle.trie.specs.contracts.Promised as Su
 use Rattle.board.specs.declared.promising.Tally.{Tally}
 use Rattle.board.specs.Promising.{most_share, none, counted, tally_of, still_due}
-use Rattle.board.specs.PromisingLaws.{tally_updates, tally_made, tally_within, tally_due, promised_by_tally}
+use Rattle.board.proofs.PromisingLaws.{tally_updates, tally_made, tally_within, tally_due, promised_by_tally}
 use Rattle.board.proofs.Callee.{contract_of, calls_plain}
 use Rattle.board.proofs.Counting.{counts_up}
 use Rattle.board.proofs.Elem.{R, vals, tells, makes, copies, lawful, bytes, step_fits, promised_makes, promised_lawful}

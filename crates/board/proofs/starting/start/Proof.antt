@@ -51,15 +51,15 @@ use Rattle.trie.specs.Record.{idle, promised_of}
 use Rattle.trie.specs.Values.{accepted_of}
 use Rattle.trie.specs.Starting.{Started, start_record_of}
 use Rattle.trie.specs.Calls.{after, state, start_of, start_at}
-use Rattle.trie.specs.Decided.{started}
+use Rattle.trie.proofs.Decided.{started}
 use Rattle.trie.specs.contracts.Accepted as Ac
 use Rattle.trie.specs.contracts.Promised as Su
 use Rattle.trie.specs.contracts.Operation as Op
 use Rattle.trie.proofs.Operation.TheLaws as Op'
 use Rattle.trie.specs.contracts.Begun as Be
 use Rattle.board.specs.Promising.{most_share}
-use Rattle.board.specs.PromisingLaws.{share_small}
-use Rattle.judging.specs.JudgingLaws.{judged_of, seated, start_seated, start_refused}
+use Rattle.board.proofs.PromisingLaws.{share_small}
+use Rattle.judging.proofs.JudgingLaws.{judged_of, seated, start_seated, start_refused}
 use Rattle.board.proofs.Callee.{contract_of, Last, leaves, asks_none, calls_told, calls_plain, calls_plain_last}
 use Rattle.board.proofs.Tests.{is_true, is_false}
 use Rattle.board.proofs.Shared.{at_list, calls_shared}

@@ -41,7 +41,7 @@ use Rattle.trie.specs.Values.{progress_of}
 use Rattle.trie.specs.Stepping.{step_record_of}
 use Rattle.trie.specs.Calls.{after, state, step_at, step_of}
 use Rattle.trie.specs.contracts.Progress as Pr
-use Rattle.judging.specs.JudgingLaws.{judged_of}
+use Rattle.judging.proofs.JudgingLaws.{judged_of}
 use Rattle.board.proofs.Callee.{contract_of, asks, calls_told, calls_plain}
 use Rattle.board.proofs.Arms.{branches_on}
 use Rattle.board.proofs.GivenUp.{gives_up}

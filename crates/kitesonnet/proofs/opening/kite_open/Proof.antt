@@ -3,7 +3,7 @@
 use mathlib.Core.Path.{sym, ◌∙◌}
 use native.Mathlib.Omega.{arith}
 use borrow.Author.Tests.{not-true, not-false}
-use Rattle.kitesonnet.specs.CallLaws.{manned_seats, open_sized, open_manned}
+use Rattle.kitesonnet.proofs.CallLaws.{manned_seats, open_sized, open_manned}
 use Rattle.kitesonnet.proofs.Comes.{open_stays, open_begins}
 use borrow.Author.Rules.{rules}
 use Rattle.kitesonnet.proofs.opening.kite_open.Statement.{statement}

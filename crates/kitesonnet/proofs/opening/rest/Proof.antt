@@ -4,7 +4,7 @@ use mathlib.Core.Path.{◌≡◌, ap, ◌∙◌}
 use Prim.Native.Nat.{◌-◌, ◌≤◌}
 use native.Mathlib.Omega.{arith}
 use lib.ListN.{length}
-use Rattle.kitesonnet.specs.SeatLaws.{seats_rested, rested_first, rested_on}
+use Rattle.kitesonnet.proofs.SeatLaws.{seats_rested, rested_first, rested_on}
 use borrow.Author.Rules.{rules}
 use Rattle.kitesonnet.proofs.opening.rest.Statement.{statement}
 use Rattle.kitesonnet.proofs.opening.rest.Tie as tie

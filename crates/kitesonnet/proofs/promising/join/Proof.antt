@@ -1,7 +1,7 @@
 -- `kitesonnet::promising::join` meets its contract.
 -- Assumes nothing.
 use native.Mathlib.Omega.{arith}
-use Rattle.kitesonnet.specs.PromisingLaws.{small_of}
+use Rattle.kitesonnet.proofs.PromisingLaws.{small_of}
 use borrow.Author.Rules.{rules}
 use Rattle.kitesonnet.proofs.promising.join.Statement.{statement}
 use Rattle.kitesonnet.proofs.promising.join.Tie as tie

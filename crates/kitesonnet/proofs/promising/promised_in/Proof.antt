@@ -6,7 +6,7 @@ use native.Mathlib.Omega.{arith}
 use lib.ListN.{drop}
 use Rattle.kitesonnet.specs.Seats.{record_words}
 use Rattle.kitesonnet.specs.Promising.{owed_in, promised_in}
-use Rattle.kitesonnet.specs.PromisingLaws.{owed_small, promised_small, promised_none, promised_on, promised_all}
+use Rattle.kitesonnet.proofs.PromisingLaws.{owed_small, promised_small, promised_none, promised_on, promised_all}
 use borrow.Author.Rules.{rules}
 use Rattle.kitesonnet.proofs.promising.promised_in.Statement.{statement}
 use Rattle.kitesonnet.proofs.promising.promised_in.Tie as tie

@@ -1,6 +1,6 @@
 -- `lines::histories::is_open` meets its contract.
 -- Assumes nothing.
-use Rattle.trie.specs.SizeLaws.{sized}
+use Rattle.trie.proofs.SizeLaws.{sized}
 use mathlib.Core.Path.{sym, ◌∙◌}
 use native.Mathlib.Omega.{arith}
 use borrow.Author.Tests.{not-true, not-false, lt-leb, le-leb}

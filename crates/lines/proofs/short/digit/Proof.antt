@@ -1,7 +1,7 @@
 -- `lines::short::digit` meets its contract.
 -- Assumes nothing.
 use borrow.Author.Tests.{leb-true}
-use Rattle.trie.specs.SizeLaws.{and_first}
+use Rattle.trie.proofs.SizeLaws.{and_first}
 use Rattle.lines.proofs.short.digit.Statement.{statement}
 use Rattle.lines.proofs.short.digit.Tie as tie
 

@@ -2,7 +2,7 @@
 -- Assumes nothing.
 use mathlib.Core.Path.{ap, ◌∙◌, ◌≡◌}
 use lib.ListN.{length}
-use Rattle.trie.specs.OpenLaws.{filled_length}
+use Rattle.trie.proofs.OpenLaws.{filled_length}
 use Prim.Native.Nat.{◌*◌, ◌-◌, ◌≤◌}
 use native.Mathlib.Omega.{arith}
 use borrow.Author.Rules.{rules}

@@ -3,7 +3,7 @@
 use Rattle.trie.specs.Tables.{roomy}
 use Rattle.tables.proofs.Halves.{doubled, doubled_less}
 use native.Mathlib.Omega.{arith}
-use Rattle.trie.specs.TableLaws.{room_most}
+use Rattle.trie.proofs.TableLaws.{room_most}
 use borrow.Author.Rules.{rules}
 use Rattle.tables.proofs.words.is_roomy.Statement.{statement}
 use Rattle.tables.proofs.words.is_roomy.Tie as tie
