@@ -1,0 +1,25 @@
+-- `asking::selecting::select_right` meets its contract.
+-- Assumes nothing.
+use mathlib.Core.Path.{sym, ◌∙◌}
+use borrow.Author.Tests.{not-true, not-false}
+use Rattle.asking.proofs.Looks.{sum_formed}
+use borrow.Author.Rules.{rules}
+use Rattle.asking.proofs.selecting.select_right.Goals as goal
+
+pub returns-then-not-is_within : goal.returns-then-not-is_within
+returns-then-not-is_within c = simp (sym c.is_within.ensures ∙ c.if-not-is_within.true)
+
+pub returns-then-f : goal.returns-then-f
+returns-then-f c = simp (sym c.is_within.ensures ∙ c.if-not-is_within.false, c.if-f.true, c.Cell-at.ensures)
+
+pub returns : goal.returns
+returns c =
+    let given = c.args in
+    let within = c.is_within in
+    let held = c.if-not-is_within.false in
+    simp (
+      sym within.ensures ∙ held,
+      c.if-f.false,
+      ← sum_formed given.passed given.f.at_left.count given.b.cells _ _ within.ensures held c.sum_within.ensures,
+    )
+    c.select_next.ensures
