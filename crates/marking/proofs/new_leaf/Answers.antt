@@ -6,14 +6,11 @@ use Rattle.marking.proofs.new_leaf.Goals as goal
 
 pub returns-in-Is : goal.returns-in-Is
 returns-in-Is c =
-    let asked = c.requires in
-    let u = c.u-1 in
-    new_marked _ _ _ _ _ (asked) u.given.1 c.convert.ensures _ _ c.in-Is.is c.leaf_version.ensures
+    new_marked _ _ _ _ _ (c.requires) c.in-Insert.is c.convert.ensures _ _ c.in-Is.is c.leaf_version.ensures
 
 pub returns-in-TooLoud : goal.returns-in-TooLoud
 returns-in-TooLoud c =
-    let asked = c.requires in
-    never_loud _ _ _ _ _ (asked) c.in-Insert.is c.convert.ensures c.in-TooLoud.is
+    never_loud _ _ _ _ _ (c.requires) c.in-Insert.is c.convert.ensures c.in-TooLoud.is
 
 pub returns-in-Delete : goal.returns-in-Delete
 returns-in-Delete c = new_unmarked _ _ _ c.in-Delete.is c.leaf_version-in-Delete.ensures

@@ -17,26 +17,17 @@ returns-then-not-update_fits c = simp (le-leb _ _ c.if-n-gt-MOST_CELLS.false, sy
 
 pub overflow_add-leaf : goal.overflow_add-leaf
 overflow_add-leaf c =
-    let given = c.args in
-    omega (arith, c.cell.ensures, fits_cell given.b.cells given.u (sym c.update_fits.ensures ∙ c.if-not-update_fits.false))
+    omega (arith, c.cell.ensures, fits_cell c.args.b.cells c.args.u (sym c.update_fits.ensures ∙ c.if-not-update_fits.false))
 
 pub returns-then-not-is_sound_in : goal.returns-then-not-is_sound_in
 unfolding read_of
 returns-then-not-is_sound_in c =
-    let if1 = c.if-n-gt-MOST_CELLS in
-    let update_fits = c.update_fits in
     simp
-    (le-leb _ _ if1.false, sym update_fits.ensures ∙ c.if-not-update_fits.false, ← c.cell.ensures, ← c.word.ensures, sym c.is_sound_in.ensures ∙ c.if-not-is_sound_in.true)
+    (le-leb _ _ c.if-n-gt-MOST_CELLS.false, sym c.update_fits.ensures ∙ c.if-not-update_fits.false, ← c.cell.ensures, ← c.word.ensures, sym c.is_sound_in.ensures ∙ c.if-not-is_sound_in.true)
 
 pub returns : goal.returns
 unfolding read_of
 returns c =
-    let if1 = c.if-n-gt-MOST_CELLS in
-    let update_fits = c.update_fits in
-    let if2 = c.if-not-update_fits in
-    let cell = c.cell in
-    let word = c.word in
-    let is_sound_in = c.is_sound_in in
     simp
-    (le-leb _ _ if1.false, sym update_fits.ensures ∙ not-false _ if2.false, ← cell.ensures, ← word.ensures, sym is_sound_in.ensures ∙ c.if-not-is_sound_in.false, ← c.load.ensures, ← c.is_as_wanted-found.ensures)
+    (le-leb _ _ c.if-n-gt-MOST_CELLS.false, sym c.update_fits.ensures ∙ c.if-not-update_fits.false, ← c.cell.ensures, ← c.word.ensures, sym c.is_sound_in.ensures ∙ c.if-not-is_sound_in.false, ← c.load.ensures, ← c.is_as_wanted-found.ensures)
     c.go_by.ensures

@@ -23,9 +23,7 @@ returns-then-not-is_sound_in c =
 
 pub overflow_add-leaf : goal.overflow_add-leaf
 overflow_add-leaf c =
-    let given = c.args in
-    let update_fits = c.update_fits in
-    omega (arith, c.cell.ensures, fits_cell given.b.cells given.u (sym update_fits.ensures ∙ c.if-not-update_fits.false))
+    omega (arith, c.cell.ensures, fits_cell c.args.b.cells c.args.u (sym c.update_fits.ensures ∙ c.if-not-update_fits.false))
 
 pub new_leaf-requires : goal.new_leaf-requires
 new_leaf-requires c = sym c.update_fits.ensures ∙ c.if-not-update_fits.false
@@ -33,24 +31,12 @@ new_leaf-requires c = sym c.update_fits.ensures ∙ c.if-not-update_fits.false
 pub returns-then-now-v : goal.returns-then-now-v
 unfolding swap_of
 returns-then-now-v c =
-    let if1 = c.if-n-gt-MOST_CELLS in
-    let update_fits = c.update_fits in
-    let if2 = c.if-not-update_fits in
-    let is_sound_in = c.is_sound_in in
-    let if3 = c.if-not-is_sound_in in
-    let cell = c.cell in
-    let word = c.word-now in
     simp
-    (le-leb _ _ if1.false, sym update_fits.ensures ∙ not-false _ if2.false, sym is_sound_in.ensures ∙ not-false _ if3.false, ← cell.ensures, ← word.ensures, eq-eqb _ _ c.if-now-v.true, ← c.new_leaf.ensures, ← c.climb_from.ensures)
+    (le-leb _ _ c.if-n-gt-MOST_CELLS.false, sym c.update_fits.ensures ∙ c.if-not-update_fits.false, sym c.is_sound_in.ensures ∙ c.if-not-is_sound_in.false, ← c.cell.ensures, ← c.word-now.ensures, eq-eqb _ _ c.if-now-v.true, ← c.new_leaf.ensures, ← c.climb_from.ensures)
     c.plan_swap.ensures
 
 pub returns-else-now-v : goal.returns-else-now-v
 unfolding swap_of
 returns-else-now-v c =
-    let if1 = c.if-n-gt-MOST_CELLS in
-    let update_fits = c.update_fits in
-    let if2 = c.if-not-update_fits in
-    let is_sound_in = c.is_sound_in in
-    let if3 = c.if-not-is_sound_in in
     simp
-    (le-leb _ _ if1.false, sym update_fits.ensures ∙ not-false _ if2.false, sym is_sound_in.ensures ∙ not-false _ if3.false, ← c.cell.ensures, ← c.word-now.ensures, ne_eqb _ _ c.if-now-v.false, c.climb_from-else-now-v.ensures)
+    (le-leb _ _ c.if-n-gt-MOST_CELLS.false, sym c.update_fits.ensures ∙ c.if-not-update_fits.false, sym c.is_sound_in.ensures ∙ c.if-not-is_sound_in.false, ← c.cell.ensures, ← c.word-now.ensures, ne_eqb _ _ c.if-now-v.false, c.climb_from-else-now-v.ensures)

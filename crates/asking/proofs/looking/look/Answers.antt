@@ -12,16 +12,10 @@ returns-then-b-depth c = simp (le-ltb _ _ c.if-b-depth.true)
 
 pub returns-then-is_sound : goal.returns-then-is_sound
 returns-then-is_sound c =
-    let if1 = c.if-b-depth in
-    let load = c.load-at in
-    let load2 = c.load-at_left in
-    look_sound _ _ _ _ _ _ load.ensures load2.ensures c.load-at_right.ensures _ _ _ c.is_sound.ensures
-    c.is_sound-2.ensures c.is_sound-3.ensures if1.false c.if-is_sound.true
+    look_sound _ _ _ _ _ _ c.load-at.ensures c.load-at_left.ensures c.load-at_right.ensures _ _ _ c.is_sound.ensures
+    c.is_sound-2.ensures c.is_sound-3.ensures c.if-b-depth.false c.if-is_sound.true
 
 pub returns-else-is_sound : goal.returns-else-is_sound
 returns-else-is_sound c =
-    let if1 = c.if-b-depth in
-    let load = c.load-at in
-    let load2 = c.load-at_left in
-    look_unsound _ _ _ _ _ _ load.ensures load2.ensures c.load-at_right.ensures _ _ _ c.is_sound.ensures
-    c.is_sound-2.ensures c.is_sound-3.ensures if1.false c.if-is_sound.false
+    look_unsound _ _ _ _ _ _ c.load-at.ensures c.load-at_left.ensures c.load-at_right.ensures _ _ _ c.is_sound.ensures
+    c.is_sound-2.ensures c.is_sound-3.ensures c.if-b-depth.false c.if-is_sound.false

@@ -13,15 +13,12 @@ returns-then-not-query_fits c = simp (sym c.query_fits.ensures ∙ c.if-not-quer
 pub returns-then-not-is_sound_in : goal.returns-then-not-is_sound_in
 unfolding ask_of
 returns-then-not-is_sound_in c =
-    let query_fits = c.query_fits in
     simp
-    (sym query_fits.ensures ∙ c.if-not-query_fits.false, ← c.word.ensures, sym c.is_sound_in.ensures ∙ c.if-not-is_sound_in.true)
+    (sym c.query_fits.ensures ∙ c.if-not-query_fits.false, ← c.word.ensures, sym c.is_sound_in.ensures ∙ c.if-not-is_sound_in.true)
 
 pub returns : goal.returns
 unfolding ask_of
 returns c =
-    let query_fits = c.query_fits in
-    let if1 = c.if-not-query_fits in
     simp
-    (sym query_fits.ensures ∙ not-false _ if1.false, ← c.word.ensures, sym c.is_sound_in.ensures ∙ c.if-not-is_sound_in.false, ← c.load.ensures)
+    (sym c.query_fits.ensures ∙ c.if-not-query_fits.false, ← c.word.ensures, sym c.is_sound_in.ensures ∙ c.if-not-is_sound_in.false, ← c.load.ensures)
     c.first.ensures
