@@ -13,6 +13,10 @@ pub returns-then-not-k-b : goal.returns-then-not-k-b
 returns-then-not-k-b c =
     rank_damaged c.args.b c.args.k c.args.s c.args.count c.args.energy _ (ap not c.if-not-k-b.true)
 
+pub rank_seen-requires : goal.rank_seen-requires
+rank_seen-requires c =
+    omega (arith, look_depth c.args.b c.args.s c.args.versions.now _ _ c.look.ensures c.in-Sound.is)
+
 pub returns-in-Unsound : goal.returns-in-Unsound
 returns-in-Unsound c =
     rank_by c.args.b c.args.k c.args.s c.args.count c.args.energy _ _ _ _ _ (ap not c.if-not-k-b.false)

@@ -18,6 +18,10 @@ returns-then-not-passed-j c =
     select_damaged c.args.b c.args.j c.args.s c.args.x c.args.passed c.args.versions.now c.if-b-gt-TALLEST.false _
     c.ancestor.ensures (ap not c.if-not-passed-j.true)
 
+pub select_seen-requires : goal.select_seen-requires
+select_seen-requires c =
+    (omega (arith, c.if-b-gt-TALLEST.false, look_depth c.args.b c.args.s c.args.versions.now _ _ c.look.ensures c.in-Sound.is), select_near c.args.b c.args.j c.args.s c.args.x c.args.passed c.args.versions.now c.if-b-gt-TALLEST.false _ c.ancestor.ensures (ap not c.if-not-passed-j.false) _ _ c.look.ensures c.in-Sound.is, select_passed c.args.b c.args.j c.args.s c.args.x c.args.passed c.args.versions.now c.if-b-gt-TALLEST.false _ c.ancestor.ensures (ap not c.if-not-passed-j.false))
+
 pub returns-in-Unsound : goal.returns-in-Unsound
 returns-in-Unsound c =
     select_by c.args.b c.args.j c.args.s c.args.x c.args.passed c.args.versions.now c.if-b-gt-TALLEST.false _ c.ancestor.ensures
