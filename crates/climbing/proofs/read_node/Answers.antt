@@ -1,0 +1,11 @@
+-- `climbing::read_node` meets its contract.
+-- Assumes nothing.
+use mathlib.Core.Path.{sym, ◌∙◌}
+use borrow.Author.Rules.{rules}
+use Rattle.climbing.proofs.read_node.Goals as goal
+
+pub returns-then-is_sound_in : goal.returns-then-is_sound_in
+returns-then-is_sound_in c = simp (← c.word.ensures, sym c.is_sound_in.ensures ∙ c.if-is_sound_in.true, c.hold.ensures)
+
+pub returns-else-is_sound_in : goal.returns-else-is_sound_in
+returns-else-is_sound_in c = simp (← c.word.ensures, sym c.is_sound_in.ensures ∙ c.if-is_sound_in.false)
