@@ -10,14 +10,6 @@ use Rattle.trie.specs.Opening.{filled, first_word}
 use Rattle.steps.proofs.Fills.{filled_none, filled_next, filled_all}
 use Rattle.steps.proofs.opening.fill_versions.Goals as goal
 
--- OLD abbrev invariant-loop : tie.invariant-loop
--- OLD invariant-loop n versions₀ end i₀ versions i = (i ≤ 5 * (2 * n - 1)) × (versions ≡ filled (first_word n) i versions₀)
--- OLD 
-
--- OLD abbrev decreases-loop : tie.decreases-loop
--- OLD decreases-loop n versions₀ end i₀ versions i = 5 * (2 * n - 1) - i
--- OLD 
-
 pub overflow_mul-end : goal.overflow_mul-end
 overflow_mul-end c = omega arith
 
@@ -27,8 +19,18 @@ overflow_sub-end c = omega arith
 pub overflow_mul-end-2 : goal.overflow_mul-end-2
 overflow_mul-end-2 c = omega arith
 
+pub loop-i-init : goal.loop-i-init
+loop-i-init c = (omega arith, filled_none _ _)
+
 pub overflow_add-i : goal.overflow_add-i
 overflow_add-i c = omega arith
+
+pub loop-i-smaller : goal.loop-i-smaller
+loop-i-smaller c = omega arith
+
+pub loop-i-preserved : goal.loop-i-preserved
+loop-i-preserved c =
+    (omega arith, filled_next _ _ _ _ _ _ c.loop-i.invariant.1 c.first_word.ensures c.put.ensures)
 
 pub returns : goal.returns
 returns c = filled_all _ _ _ _ _ c.loop-i.invariant.1 c.loop-i.invariant.0 c.loop-i-test.false

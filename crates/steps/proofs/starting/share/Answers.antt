@@ -5,10 +5,10 @@ use borrow.Author.Rules.{rules}
 use Rattle.steps.proofs.starting.share.Goals as goal
 
 pub returns-then-has_room : goal.returns-then-has_room
-returns-then-has_room c = share_accepts _ _ _ _ _ _ c.accept.result c.in-Update.is c.has_room.ensures c.if-has_room.true c.accept.ensures
+returns-then-has_room c = share_accepts c.args.b _ _ _ _ _ c.accept.result c.in-Update.is c.has_room.ensures c.if-has_room.true c.accept.ensures
 
 pub returns-else-has_room : goal.returns-else-has_room
-returns-else-has_room c = share_refuses _ _ _ _ _ _ _ c.in-Update.is c.has_room.ensures c.if-has_room.false c.refuse.ensures
+returns-else-has_room c = share_refuses c.args.b _ _ _ _ _ _ c.in-Update.is c.has_room.ensures c.if-has_room.false c.refuse.ensures
 
 pub returns-in-Query : goal.returns-in-Query
-returns-in-Query c = share_asks _ _ _ _ _ c.accept-in-Query.result c.in-Query.is c.accept-in-Query.ensures
+returns-in-Query c = share_asks c.args.b _ _ _ _ c.accept-in-Query.result c.in-Query.is c.accept-in-Query.ensures
