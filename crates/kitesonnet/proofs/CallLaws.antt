@@ -29,60 +29,11 @@ use Rattle.kitesonnet.specs.declared.reading.Record.{Record}
 use Rattle.kitesonnet.specs.Seats.{seats_of, record_at, worker_of, said, readable, seat_put}
 use Rattle.kitesonnet.specs.Answers.{course_put}
 use Rattle.kitesonnet.specs.Calls.{Lent, lent, state_of, Back, back, returned, writes_first, writes_at, kite_open_of, start_damaged, start_said, start_given, Answered, answered, answer_after, step_said, step_told}
+use Rattle.kitesonnet.specs.OneRecord.{Begins, begins, begun_by, begun_in, starts_in, Moves, moves, moves_in, lost_in, stepped_in, steps_in, steps_at}
 use Rattle.kitesonnet.specs.Promising.{promised_in}
 use Rattle.kitesonnet.proofs.PromisingLaws.{promised_is, promised_damaged}
-use Rattle.kitesonnet.proofs.SeatLaws.{said_length, said_at, seats_rested, seats_rest}
-
--- ---- what the code does with one record
-
--- a start's number, and the board after it
-pub record Begins : Type 0 where
-  pub number : ℕ
-  pub board : List ℕ
-
-abbrev pub begins : ℕ → List ℕ → Begins
-begins number board = record { number = number; board = board }
-
-abbrev begun_by : Told Ok → ℕ → List ℕ → Worker → Begins
-begun_by (refused number) i board w = begins number board
-begun_by (gives a) i board w = begins 0 (seat_put board i w)
-
-abbrev pub begun_in : ℕ → List ℕ → Started → Begins
-begun_in i board s = begun_by s.told i board s.worker
-
--- a start of worker i, which has its words on the board
-abbrev pub starts_in : ℕ → ℕ → ℕ → Operation → List ℕ → List ℕ → List ℕ → Begins
-starts_in n w i o nodes versions board = begun_in i board (start_record_of n o (promised_in (height_of n + 1) w board) (worker_of (record_at board i)) nodes versions)
-
--- a step's number, and the board and the answer after it
-pub record Moves : Type 0 where
-  pub number : ℕ
-  pub board : List ℕ
-  pub answer : List ℕ
-
-abbrev pub moves : ℕ → List ℕ → List ℕ → Moves
-moves number board answer = record { number = number; board = board; answer = answer }
-
-abbrev pub moves_in : ℕ → List ℕ → List ℕ → Moved → Moves
-moves_in i board answer (Moved.Refused number) = moves number board answer
-moves_in i board answer (Moved.On w) = moves 0 (seat_put board i w) (course_put answer on)
-moves_in i board answer (Moved.Done a) = moves 0 (seat_put board i idle) (course_put answer (done (value_of a)))
-
--- the refusal of a worker whose words are no record
-abbrev pub lost_in : ℕ → List ℕ → List ℕ → ℕ
-lost_in n nodes versions = pick (allowed n) (pick (roomy n nodes versions) 9 3) 1
-
--- one record's step, told in words
-abbrev pub stepped_in : ℕ → Lent → List ℕ → Stepped → Answered
-stepped_in i s answer r = answered (returned r.told s (lent r.nodes r.versions (seat_put s.board i r.worker))) (answer_after r.told answer)
-
-abbrev pub steps_in : ℕ → ℕ → Record → Lent → List ℕ → Answered
-steps_in n i Record.Not s answer = answered (back (lost_in n s.nodes s.versions) s) answer
-steps_in n i (Record.Is w) s answer = stepped_in i s answer (step_record_of n w s.nodes s.versions)
-
--- a step of worker i, which has its words on the board
-abbrev pub steps_at : ℕ → ℕ → Lent → List ℕ → Answered
-steps_at n i s answer = steps_in n i (record_at s.board i) s answer
+use Rattle.kitesonnet.specs.Seats.{seats_rested}
+use Rattle.kitesonnet.proofs.SeatLaws.{said_length, said_at, seats_rest}
 
 -- what a moved record leaves is what its step tells in words
 module _ (n i : ℕ) (w : Worker) (nodes versions nodes' versions' board answer : List ℕ) where

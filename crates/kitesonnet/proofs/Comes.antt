@@ -29,8 +29,9 @@ use Rattle.kitesonnet.specs.Answers.{answer_words, answer_put, value_put, energy
 use Rattle.kitesonnet.specs.Calls.{Lent, lent, back, kite_open_of, start_given, kite_start_of, Answered, answered, step_roomy, kite_step_of, converted, convert_roomy, kite_energy_of}
 use Rattle.judging.specs.Judging.{manned_by}
 use Rattle.kitesonnet.specs.Promising.{promised_in}
-use Rattle.kitesonnet.proofs.SeatLaws.{seats_rested}
-use Rattle.kitesonnet.proofs.CallLaws.{Begins, begins, begun_in, starts_in, Moves, moves, moves_in, lost_in, steps_in, steps_at, moves_are, judged_in, Sits, sits, begun_back, start_sits, start_stays, step_sits, step_stays, open_short, open_fresh}
+use Rattle.kitesonnet.specs.Seats.{seats_rested}
+use Rattle.kitesonnet.specs.OneRecord.{Begins, begins, begun_in, starts_in, Moves, moves, moves_in, lost_in, steps_in, steps_at}
+use Rattle.kitesonnet.proofs.CallLaws.{moves_are, judged_in, Sits, sits, begun_back, start_sits, start_stays, step_sits, step_stays, open_short, open_fresh}
 
 -- ---- an open
 

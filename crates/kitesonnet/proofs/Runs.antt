@@ -56,7 +56,7 @@ run_records n w (c ∷ calls) s = run_records n w calls (on_records n w c s)
 
 -- ---- one call
 
-module _ (n w : ℕ) (answer nodes versions board : List ℕ) (long : leb answer_words (length answer) ≡ true) (said_All : readable w board ≡ true) where
+module _ (n w : ℕ) (answer nodes versions board : List ℕ) (long : leb answer_words (length answer) ≡ true) (said_all : readable w board ≡ true) where
   abbrev s : Lent
   s = lent nodes versions board
 
@@ -66,8 +66,8 @@ module _ (n w : ℕ) (answer nodes versions board : List ℕ) (long : leb answer
 
     -- one record written, or nothing: every worker's words are still a record
     kept : {A : Type 0} (t : Told A) (nodes' versions' : List ℕ) (v : Worker) → i < seats_of board → readable w (returned t s (lent nodes' versions' (seat_put board i v))).lent.board ≡ true
-    kept (refused k) nodes' versions' v h = said_All
-    kept (gives x) nodes' versions' v h = readable_put board i v h w said_All
+    kept (refused k) nodes' versions' v h = said_all
+    kept (gives x) nodes' versions' v h = readable_put board i v h w said_all
 
     at_seat : {A : Type 0} (a : After A) → i < seats_of board → readable w (writes_at i s a).lent.board ≡ true
     at_seat a h = kept a.told a.state.nodes a.state.versions (get_or a.state.board i idle) h
@@ -75,18 +75,18 @@ module _ (n w : ℕ) (answer nodes versions board : List ℕ) (long : leb answer
     start_said_lem : (o : Operation) (b : Bool) → judged ≡ b → readable w (writes_at i s (start_of n w i o (state_of s))).lent.board ≡ true
     unfolding start_of
     start_said_lem o true e = at_seat (start_of n w i o (state_of s)) (seats_so nodes versions board n w i e)
-    start_said_lem o false e = subst (λ (a : After Ok). readable w (writes_at i s a).lent.board ≡ true) (sym (call_judged n w i nodes versions board _ e)) said_All
+    start_said_lem o false e = subst (λ (a : After Ok). readable w (writes_at i s a).lent.board ≡ true) (sym (call_judged n w i nodes versions board _ e)) said_all
 
     start_by : (x : MaybeOperation) (kind first second : ℕ) → operation_of kind first second ≡ x
         → (state_of (kite_start_of n w i kind first second s).lent ≡ start_on x n w i (state_of s)) × (readable w (kite_start_of n w i kind first second s).lent.board ≡ true)
     unfolding kite_start_of
     start_by MaybeOperation.Not kind first second e = (
       ap (λ (y : MaybeOperation). state_of (start_given y n w i s).lent) e,
-      ap (λ (y : MaybeOperation). readable w (start_given y n w i s).lent.board) e ∙ said_All,
+      ap (λ (y : MaybeOperation). readable w (start_given y n w i s).lent.board) e ∙ said_all,
     )
     start_by (MaybeOperation.Is o) kind first second e = (
-      start_is nodes versions board n w i kind first second o e said_All,
-      ap (λ (y : MaybeOperation). readable w (start_given y n w i s).lent.board) e ∙ ap (λ (b : Bool). readable w (writes_at i s (start_said b n w i o (state_of s))).lent.board) said_All ∙ start_said_lem o judged refl,
+      start_is nodes versions board n w i kind first second o e said_all,
+      ap (λ (y : MaybeOperation). readable w (start_given y n w i s).lent.board) e ∙ ap (λ (b : Bool). readable w (writes_at i s (start_said b n w i o (state_of s))).lent.board) said_all ∙ start_said_lem o judged refl,
     )
 
     -- the worker's own words are a record, as it is one of the board's
@@ -96,13 +96,13 @@ module _ (n w : ℕ) (answer nodes versions board : List ℕ) (long : leb answer
 
     step_by : (b : Bool) → judged ≡ b → state_of (kite_step_of n w i s answer).lent ≡ (step_of n w i (state_of s)).state
     unfolding kite_step_of
-    step_by true e = step_of_lem (record_at board i) refl (readable_one w board i said_All (sits n w i nodes versions board e).below)
+    step_by true e = step_of_lem (record_at board i) refl (readable_one w board i said_all (sits n w i nodes versions board e).below)
     step_by false e = ap (λ (b : Bool). state_of (step_roomy b n w i s answer).lent) long ∙ step_stopped nodes versions board n w i (record_at board i) e
 
     stopped : (x : Record) → judged ≡ false → readable w (writes_at i s (step_said x n w i (state_of s))).lent.board ≡ true
     unfolding step_of
-    stopped Record.Not e = subst (λ (a : After Course). readable w (writes_at i s a).lent.board ≡ true) (sym (call_judged n w i nodes versions board _ e)) said_All
-    stopped (Record.Is r) e = subst (λ (a : After Course). readable w (writes_at i s a).lent.board ≡ true) (sym (call_judged n w i nodes versions board _ e)) said_All
+    stopped Record.Not e = subst (λ (a : After Course). readable w (writes_at i s a).lent.board ≡ true) (sym (call_judged n w i nodes versions board _ e)) said_all
+    stopped (Record.Is r) e = subst (λ (a : After Course). readable w (writes_at i s a).lent.board ≡ true) (sym (call_judged n w i nodes versions board _ e)) said_all
 
     step_said_lem : (b : Bool) → judged ≡ b → readable w (writes_at i s (step_said (record_at board i) n w i (state_of s))).lent.board ≡ true
     step_said_lem true e = at_seat (step_said (record_at board i) n w i (state_of s)) (seats_so nodes versions board n w i e)

@@ -35,7 +35,8 @@ use Rattle.kitesonnet.specs.Reading.{record_of}
 use Rattle.kitesonnet.specs.Writing.{words_of}
 use Rattle.kitesonnet.proofs.RecordLaws.{record_back}
 use Rattle.kitesonnet.specs.Seats.{record_words, seats_of, record_at, worker_of, said, is_record, readable, seat_put}
-use Rattle.kitesonnet.proofs.SeatLaws.{said_length, at_next, said_at, seats_rested, seats_rest}
+use Rattle.kitesonnet.specs.Seats.{seats_rested}
+use Rattle.kitesonnet.proofs.SeatLaws.{said_length, at_next, said_at, seats_rest}
 use Rattle.kitesonnet.specs.Answers.{answer_words}
 use Rattle.kitesonnet.specs.Calls.{Lent, lent, state_of, returned, writes_first, writes_at, kite_open_of, start_said, start_given, kite_start_of, answer_after, step_said, step_told, step_roomy, kite_step_of}
 use Rattle.kitesonnet.proofs.CallLaws.{judged_in, call_judged, sits, manned_seats}

@@ -5,7 +5,7 @@ use Rattle.std.proofs.Common.{sym, ap, ◌∙◌, add-one, arith, drop-drop}
 use Rattle.trie.specs.declared.Worker.{Worker}
 use Rattle.trie.specs.Record.{idle}
 use Rattle.kitesonnet.specs.Reading.{record_of}
-use Rattle.kitesonnet.specs.Seats.{record_words, seats_of, record_at, worker_of, workers_in, said, seat_put, seats_put}
+use Rattle.kitesonnet.specs.Seats.{record_words, seats_of, record_at, worker_of, workers_in, said, seat_put, seats_put, seats_rested}
 
 pub workers_length : (k : ℕ) (words : List ℕ) → length (workers_in k words) ≡ k
 unfolding workers_in
@@ -30,10 +30,6 @@ pub said_at : (board : List ℕ) (i : ℕ) → i < seats_of board → get_or (sa
 said_at board i h = workers_at (seats_of board) board i h
 
 -- ---- workers at rest
-
-unfoldable pub seats_rested : ℕ → List ℕ → List ℕ
-seats_rested zero board = board
-seats_rested (suc k) board = seat_put (seats_rested k board) k idle
 
 pub seats_rest : (k : ℕ) (board : List ℕ) (workers : List Worker) → ((i : ℕ) → i < k → get_or workers i idle ≡ idle) → seats_put k board workers ≡ seats_rested k board
 unfolding seats_put seats_rested

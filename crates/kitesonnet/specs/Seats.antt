@@ -51,3 +51,8 @@ seat_put board i w = paste board (record_words * i) (words_of w) record_words
 unfoldable pub seats_put : ℕ → List ℕ → List Worker → List ℕ
 seats_put zero board workers = board
 seats_put (suc k) board workers = seat_put (seats_put k board workers) k (get_or workers k idle)
+
+-- the board with the words of an idle record in the places of the first k workers
+unfoldable pub seats_rested : ℕ → List ℕ → List ℕ
+seats_rested zero board = board
+seats_rested (suc k) board = seat_put (seats_rested k board) k idle

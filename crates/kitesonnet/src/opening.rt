@@ -2,7 +2,7 @@
 // It reads no old words, so that it can begin a new history in any rows that are long enough.
 ghost use Rattle.std.specs.Prelude.{◌≡◌, ◌*◌, ◌≤◌, length};
 ghost use Rattle.kitesonnet.specs.Seats.{record_words};
-ghost use Rattle.kitesonnet.proofs.SeatLaws.{seats_rested};
+ghost use Rattle.kitesonnet.specs.Seats.{seats_rested};
 ghost use Rattle.kitesonnet.specs.Calls.{lent, back, kite_open_of};
 
 use crate::RECORD_WORDS;

@@ -5,7 +5,7 @@ ghost use Rattle.trie.specs.Size.{most_workers};
 ghost use Rattle.trie.specs.Values.{accepted_of};
 ghost use Rattle.kitesonnet.specs.Seats.{record_words};
 ghost use Rattle.kitesonnet.specs.Calls.{lent, back, kite_start_of};
-ghost use Rattle.kitesonnet.proofs.CallLaws.{begins, begun_in, starts_in};
+ghost use Rattle.kitesonnet.specs.OneRecord.{begins, begun_in, starts_in};
 
 use crate::RECORD_WORDS;
 use crate::operations::{MaybeOperation, operation_of};

@@ -3,7 +3,7 @@
 ghost use Rattle.std.specs.Prelude.{◌≡◌, ◌+◌, ◌*◌, ◌≤◌, length};
 ghost use Rattle.kitesonnet.specs.Seats.{record_words};
 ghost use Rattle.kitesonnet.specs.Calls.{lent, back, answered, kite_step_of};
-ghost use Rattle.kitesonnet.proofs.CallLaws.{moves, moves_in, lost_in, steps_at};
+ghost use Rattle.kitesonnet.specs.OneRecord.{moves, moves_in, lost_in, steps_at};
 
 use crate::answers::{ON_KIND, put_answer, put_value};
 use crate::reading::Record;

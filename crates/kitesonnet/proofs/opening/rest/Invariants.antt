@@ -1,0 +1,15 @@
+-- What the loop of `opening/rest` keeps, and how it ends.
+use mathlib.Core.Path.{◌≡◌, ap, ◌∙◌}
+use Prim.Native.Nat.{◌-◌, ◌≤◌}
+use native.Mathlib.Omega.{arith}
+use lib.ListN.{length}
+use Rattle.kitesonnet.specs.Seats.{seats_rested}
+use Rattle.kitesonnet.proofs.SeatLaws.{rested_first, rested_on}
+use borrow.Author.Rules.{rules}
+use Rattle.kitesonnet.proofs.opening.rest.Given as goal
+
+abbrev pub invariant-loop-i : goal.invariant-loop-i
+invariant-loop-i l = (l.i ≤ l.w) × (length l.board ≡ length l.initial.board) × (l.board ≡ seats_rested l.i l.initial.board)
+
+abbrev pub decreases-loop-i : goal.decreases-loop-i
+decreases-loop-i l = l.w - l.i

@@ -1,0 +1,16 @@
+-- What the loop of `promising/promised_in` keeps, and how it ends.
+use mathlib.Core.Path.{◌≡◌, ap, ◌∙◌}
+use Prim.Native.Nat.{◌*◌, ◌-◌, ◌≤◌}
+use native.Mathlib.Omega.{arith}
+use lib.ListN.{drop}
+use Rattle.kitesonnet.specs.Seats.{record_words}
+use Rattle.kitesonnet.specs.Promising.{owed_in, promised_in}
+use Rattle.kitesonnet.proofs.PromisingLaws.{owed_small, promised_small, promised_none, promised_on, promised_all}
+use borrow.Author.Rules.{rules}
+use Rattle.kitesonnet.proofs.promising.promised_in.Given as goal
+
+abbrev pub invariant-loop-i : goal.invariant-loop-i
+invariant-loop-i l = (l.i ≤ l.w) × (l.sum ≡ promised_in l.share (l.w - l.i) (drop (record_words * l.i) l.board))
+
+abbrev pub decreases-loop-i : goal.decreases-loop-i
+decreases-loop-i l = l.i
