@@ -231,12 +231,12 @@ module _ (n w : ℕ) (t : Moment) (b : Belongs n w t.state t.memory) where
         once = T.chronicle.once;
         started = all_map (λ p k. (k.0, k.1)) T.chronicle.started;
         stands = T.chronicle.stands;
-        after_start_lem = all_map (λ p k. k.2) T.chronicle.started;
+        after_start = all_map (λ p k. k.2) T.chronicle.started;
         precedes = precedes;
         shows = shows;
         in_time = T.chronicle.in_time;
         carried = T.carried;
-        goes_on_lem = goes_on_lem;
+        goes_on = goes_on_lem;
         counted = counted n w t;
         room = promise_room t.state T.promise;
         reached = reached;
