@@ -19,7 +19,7 @@ use Rattle.history.specs.Lists.{All}
 use Rattle.history.specs.Book.{Book, blank, answer}
 use Rattle.history.proofs.PutLaws.{put_same}
 use Rattle.history.proofs.Replay.{view, replay_at}
-use Rattle.history.specs.Order.{Placed, placed, Memory, memory, answer_of, advance, updates}
+use Rattle.history.specs.Order.{Placed, Memory, memory, answer_of, advance, updates}
 use Rattle.history.specs.Histories.{phase_of}
 use Rattle.history.specs.Theorem.{replay, Stands, most_steps}
 use Rattle.history.proofs.Machine.{Shared, idle, at, settled}

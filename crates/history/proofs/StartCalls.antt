@@ -6,8 +6,6 @@ use Rattle.std.proofs.Math.Option.{some, none}
 use Rattle.std.proofs.Math.Decide.{ℕ_discrete, dec_lt}
 use Rattle.decibel.specs.Energy.{energy_of}
 use Rattle.decibel.specs.Told.{refused, gives}
-use Rattle.trie.specs.declared.Update.{Update}
-use Rattle.trie.specs.declared.Query.{Query}
 use Rattle.trie.specs.declared.Operation.{Operation}
 use Rattle.trie.specs.declared.Phase.{Phase}
 use Rattle.trie.specs.declared.Worker.{Worker as Record}

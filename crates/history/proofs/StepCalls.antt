@@ -15,7 +15,7 @@ use Rattle.trie.proofs.SizeLaws.{sized}
 use Rattle.trie.specs.Record.{worker, idle, busy_phase, query_fits}
 use Rattle.trie.specs.Values.{Course}
 use Rattle.trie.specs.Stepping.{Stepped, step_record_of}
-use Rattle.trie.specs.Calls.{State, state, After, manned, step_at, step_of}
+use Rattle.trie.specs.Calls.{State, After, step_at, step_of}
 use Rattle.trie.proofs.CallLaws.{Ready, lent_ready, step_lent, step_of_record, step_no_worker, manned_long}
 use Rattle.history.specs.Lists.{◌∈◌, All, all_nil, all_cons}
 use Rattle.history.proofs.ListLaws.{all_at}
