@@ -43,7 +43,8 @@ use Rattle.history.proofs.Beneath.{root_shown}
 use Rattle.history.proofs.Chronicle.{stands_before}
 use Rattle.history.proofs.Placing.{same_book}
 use Rattle.history.proofs.Replay.{view, replay_at}
-use Rattle.history.proofs.Tied.{Came, Querying, resting, Tied}
+use Rattle.history.proofs.UnderWay.{Came, Querying, resting}
+use Rattle.history.proofs.Tied.{Tied}
 use Rattle.history.proofs.OrderGrows.{order_grows}
 use Rattle.history.proofs.OwnSteps.{asks, counted}
 use Rattle.history.proofs.StepCalls.{Belongs, StepTold, step_told_lem}

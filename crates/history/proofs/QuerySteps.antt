@@ -29,7 +29,8 @@ use Rattle.history.proofs.Walks.{Under, finding, ranking, selecting}
 use Rattle.history.proofs.Asked.{Turns, answers, onward as goes, under_busy, under_resting}
 use Rattle.history.proofs.Chronicle.{Places, Turn, onward, same_operation}
 use Rattle.history.proofs.Placing.{updates_append, same_book}
-use Rattle.history.proofs.Tied.{Open, Place, Querying, resting, walking, Tied}
+use Rattle.history.proofs.UnderWay.{Open, Place, Querying, resting, walking}
+use Rattle.history.proofs.Tied.{Tied}
 use Rattle.history.proofs.TiedCalls.{Call, step_tied}
 
 -- a query's step after its reading of the root adds nothing to what is remembered

@@ -31,7 +31,8 @@ use Rattle.history.proofs.Viewed.{view_begins}
 use Rattle.history.proofs.Kept.{Later, later_refl, start_keeps, start_later, rest_keeps}
 use Rattle.history.proofs.Promise.{Promise}
 use Rattle.history.proofs.Starts.{Begins, turned_away, accepted as granted, begins as starts, begins_promise}
-use Rattle.history.proofs.Tied.{Entered, Querying, asking, Tied}
+use Rattle.history.proofs.UnderWay.{Entered, Querying, asking}
+use Rattle.history.proofs.Tied.{Tied}
 use Rattle.history.proofs.TiedCalls.{Call, start_tied}
 use Rattle.history.proofs.StepCalls.{Belongs}
 

@@ -36,7 +36,8 @@ use Rattle.history.proofs.Walks.{Under}
 use Rattle.history.proofs.Asked.{Turns, under_busy, under_resting, walk_turns, ask_turns, idle_turn}
 use Rattle.history.proofs.Turned.{course_of, told_course}
 use Rattle.history.proofs.Chronicle.{onward, once_append}
-use Rattle.history.proofs.Tied.{Open, Place, UnderWay, Querying, resting, asking, walking, Tied}
+use Rattle.history.proofs.UnderWay.{Open, Place, UnderWay, Querying, resting, asking, walking}
+use Rattle.history.proofs.Tied.{Tied}
 use Rattle.history.proofs.TiedCalls.{Call}
 use Rattle.history.proofs.UpdateSteps.{update_tied}
 use Rattle.history.proofs.QuerySteps.{book_now, walk_adds, Result, query_tied}

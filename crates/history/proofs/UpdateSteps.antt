@@ -37,7 +37,8 @@ use Rattle.history.proofs.Turned.{Turned, still, ended, Outcome, turns, course_o
 use Rattle.history.proofs.Chronicle.{Turn, onward, once_append, same_operation}
 use Rattle.history.proofs.Placing.{ops_append, updates_append, updates_places, Found, found, not_placed, once_places, all_places}
 use Rattle.history.proofs.Following.{Tasked, Advanced, advanced}
-use Rattle.history.proofs.Tied.{Came, Updating, UnderWay, Tied}
+use Rattle.history.proofs.UnderWay.{Came, Updating, UnderWay}
+use Rattle.history.proofs.Tied.{Tied}
 use Rattle.history.proofs.TiedCalls.{Call, Step, step_tied}
 
 -- an update under way has steps left
