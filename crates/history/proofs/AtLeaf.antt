@@ -1,26 +1,26 @@
--- The two steps at a leaf keep the facts: the read, which finds the cell as wanted or waits for the swap; and the swap,
--- which brings with it those that wait. Assumes nothing.
-use Rattle.std.specs.Prelude.{◌≡◌, refl, Bool, true, false, not, List, [], ◌∷◌, ◌++◌, ℕ, suc, ◌≤◌, ◌<◌, ltb, length}
-use Rattle.std.proofs.Common.{sym, ap, ◌∙◌, subst, le_refl, arith, ltb-true}
+-- The two steps at a leaf. The read, which finds the cell as wanted or waits for the swap, keeps the facts; and of the swap,
+-- which brings with it those that wait: what it brings are updates of the cell, each answered as the book says.
+-- LeafSwap goes on from there. Assumes nothing.
+use Rattle.std.specs.Prelude.{◌≡◌, refl, Bool, true, false, not, List, [], ◌∷◌, ◌++◌, ℕ, ◌≤◌, ◌<◌, ltb, length}
+use Rattle.std.proofs.Common.{sym, ap, ◌∙◌, subst, arith, ltb-true}
 use mathlib.Core.List.Memᴰ
-use Rattle.std.proofs.Math.Option.{Option, some, none}
-use Rattle.std.proofs.Math.Decide.{ℕ_discrete}
+use Rattle.std.proofs.Math.Option.{Option, none}
 use Rattle.trie.proofs.SizeLaws.{and_first}
 use Rattle.trie.specs.declared.Update.{Update}
 use Rattle.trie.specs.Record.{cell_of, update_fits}
 use Rattle.history.specs.Lists.{◌∈◌, All, all_nil, all_cons}
-use Rattle.history.proofs.ListLaws.{prefix_refl, prefix_append, prefix_trans, all_map, all_append, all_at, all_zip}
-use Rattle.history.proofs.Nodes.{Side, lo, hi, Node, Node-discrete, Below, below_length, below_self, below_same}
+use Rattle.history.proofs.ListLaws.{prefix_refl, prefix_append, prefix_trans, all_map, all_append, all_zip}
+use Rattle.history.proofs.Nodes.{Node, Node-discrete, Below, below_length, below_self, below_same}
 use Rattle.history.proofs.Numbers.{place, length_leaf, place_leaf}
 use Rattle.history.specs.Book.{fits, want, mark}
 use Rattle.history.specs.Arrivals.{Op, Entry, entry, refused, others, swap_brings}
 use Rattle.history.proofs.PutLaws.{put_all, put_same}
-use Rattle.history.proofs.Machine.{child, leaf_version, Shared, Climb, swapping, reading, at, cell, go_up, note, wait, leaf_swap, leaf_read, leaf_try}
-use Rattle.history.proofs.Replay.{after_fits, after_want, fits_flip, run, Ok, run_append, ok_append, run_refused, ok_refused, mem_refused, all_refused, all_others, mem_others, only, view, only_append, only_all, NoneOf, Distinct, dist_nil, dist_cons, distinct_append, DistinctOps, ops_nil, ops_snoc, none_others, distinct_others}
+use Rattle.history.proofs.Machine.{Shared, Climb, swapping, reading, at, cell, note, wait, leaf_read}
+use Rattle.history.proofs.Replay.{after_fits, after_want, fits_flip, run, Ok, run_append, ok_append, run_refused, ok_refused, all_refused, all_others, only, view, only_append, only_all, NoneOf, Distinct, dist_nil, dist_cons, distinct_append, DistinctOps, ops_snoc}
 use Rattle.history.proofs.Invariant.{Closed, Depicts, Absent, Known, SpotOk, LeafOk}
-use Rattle.history.proofs.Depicting.{mark_leaf_version, depicts_cong, depicts_leaf}
-use Rattle.history.proofs.Growth.{kept, leaf, Grow, Step, spot_grow}
-use Rattle.history.proofs.Building.{NotMe, NoK, no_k, onclimb_all, closed_swap, grow_spot, grow_swap, make, up, up_only}
+use Rattle.history.proofs.Depicting.{mark_leaf_version, depicts_cong}
+use Rattle.history.proofs.Growth.{kept, Grow, Step, spot_grow}
+use Rattle.history.proofs.Building.{NotMe, NoK, no_k, onclimb_all, grow_spot, make, up}
 
 -- an update that fits the tree is of one of its cells
 pub fit_below : {n : ℕ} (u : Update) → update_fits n u ≡ true → cell_of u < n
@@ -30,16 +30,16 @@ fit_below {n} (Update.Delete k) e = ltb-true k n e
 module _ (h : ℕ) (weight : ℕ → ℕ) where
   module _ (G : Shared) (cl : Closed G.ver G.used) (sp : (y : Node) → SpotOk h weight G y (at G y)) where
     -- the entries of a leaf are of its cell
-    places : (k : Node) (s : List Entry) → All (λ e. Known h G e.op) s → All (λ e. cell h e.op ≡ k) s → All (λ e. cell_of e.op.update ≡ place k) s
+    pub places : (k : Node) (s : List Entry) → All (λ e. Known h G e.op) s → All (λ e. cell h e.op ≡ k) s → All (λ e. cell_of e.op.update ≡ place k) s
     places k s kn a = all_zip (λ e q p. sym (place_leaf h (cell_of e.op.update) (fit_below e.op.update q.fit)) ∙ ap place p) kn a
 
-    view_leaf : (k : Node) (s : List Entry) → All (λ e. cell_of e.op.update ≡ place k) s → view ((at G k).reached ++ s) (place k) ≡ run (view (at G k).reached (place k)) s
+    pub view_leaf : (k : Node) (s : List Entry) → All (λ e. cell_of e.op.update ≡ place k) s → view ((at G k).reached ++ s) (place k) ≡ run (view (at G k).reached (place k)) s
     view_leaf k s a = ap (run none) (only_append (place k) (at G k).reached s) ∙ run_append none (only (place k) (at G k).reached) (only (place k) s) ∙ ap (run (view (at G k).reached (place k))) (only_all (place k) a)
 
     mark_leaf : (k : Node) → length k ≡ h → mark (G.ver (at G k).current) ≡ view (at G k).reached (place k)
     mark_leaf k l = ap mark ((sp k).depicts.leaves [] l) ∙ mark_leaf_version weight (view (at G k).reached (place k))
 
-    leaf_spot : {J : Op → Type 0} {K : Climb → Type 0} {G' : Shared} → Grow h weight J K G G' → (k : Node) (s : List Entry) (n : ℕ) (ps : List Op) → length k ≡ h → All (λ e. cell h e.op ≡ k) s
+    pub leaf_spot : {J : Op → Type 0} {K : Climb → Type 0} {G' : Shared} → Grow h weight J K G G' → (k : Node) (s : List Entry) (n : ℕ) (ps : List Op) → length k ≡ h → All (λ e. cell h e.op ≡ k) s
         → Ok (view (at G k).reached (place k)) s → n ≤ G'.used → Depicts h weight G'.ver k n ((at G k).reached ++ s)
         → All (λ o. (cell h o ≡ k) × (fits o.update (mark (G'.ver n)) ≡ false) × Known h G' o × NoneOf o.id ((at G k).reached ++ s)) ps
         → All (λ e. Known h G e.op) s → Distinct s → All (λ e. NoneOf e.op.id (at G k).reached) s → DistinctOps ps
@@ -141,46 +141,14 @@ module _ (h : ℕ) (weight : ℕ → ℕ) where
       pend_cells : All (λ q. (cell h q ≡ cell h o) × (fits q.update (want o.update) ≡ true)) (others o.id (at G (cell h o)).waiting)
       pend_cells = all_others o.id (all_map (λ q p. (p.0, fits_flip o.update q.update was able_was (ap (fits q.update) (sym mark_was) ∙ p.1))) (sp (cell h o)).able)
 
-      swapped_cells : All (λ x. cell h x.op ≡ cell h o) swapped
+      pub swapped_cells : All (λ x. cell h x.op ≡ cell h o) swapped
       swapped_cells = all_cons refl (all_refused (all_map (λ q p. p.0) pend_cells))
 
-      swapped_known : All (λ x. Known h G x.op) swapped
+      pub swapped_known : All (λ x. Known h G x.op) swapped
       swapped_known = all_cons kn (all_refused (all_others o.id (all_map (λ q p. p.2) (sp (cell h o)).able)))
 
-      swapped_ok : Ok was swapped
+      pub swapped_ok : Ok was swapped
       swapped_ok = (sym (ap not able_was), subst (λ m. Ok m (refused (others o.id (at G (cell h o)).waiting))) (sym (after_want o.update was able_was)) (ok_refused _ _ (all_map (λ q p. p.1) pend_cells)))
 
-      swapped_run : run was swapped ≡ want o.update
+      pub swapped_run : run was swapped ≡ want o.update
       swapped_run = ap (λ m. run m (refused (others o.id (at G (cell h o)).waiting))) (after_want o.update was able_was) ∙ run_refused _ _ (all_map (λ q p. p.1) pend_cells)
-
-      grow_leaf : Grow h weight (NotMe o) NoK G (leaf_swap h weight G o)
-      grow_leaf = grow_swap h weight G cl (NotMe o) NoK (cell h o) (leaf_version weight (want o.update)) swapped (at G (cell h o)).taken
-          (leaf (omega arith) (length_leaf h (cell_of o.update)) (λ q m j. Memᴰ.append_right (at G (cell h o)).reached (Memᴰ.tail (mem_refused (mem_others o.id j m)))))
-          (λ q l j z. all_cons (λ p. j (sym p)) (all_refused (all_others o.id z.waiting)))
-
-      closed_leaf : Closed (leaf_swap h weight G o).ver (leaf_swap h weight G o).used
-      closed_leaf = closed_swap G.ver G.used (leaf_version weight (want o.update)) (kids (want o.update)) cl
-        where
-          kids : (m : Option ℕ) (b : Side) → child b (leaf_version weight m) ≤ G.used
-          kids none lo = omega arith
-          kids none hi = omega arith
-          kids (some l) lo = omega arith
-          kids (some l) hi = omega arith
-
-      spot_leaf : (y : Node) → SpotOk h weight (leaf_swap h weight G o) y (at (leaf_swap h weight G o) y)
-      spot_leaf = put_all Node-discrete (λ y a. SpotOk h weight (leaf_swap h weight G o) y a) G.spot (cell h o) _
-          (leaf_spot grow_leaf (cell h o) swapped (suc G.used) [] (length_leaf h (cell_of o.update)) swapped_cells swapped_ok (le_refl (suc G.used))
-          (depicts_leaf h weight _ (cell h o) (suc G.used) _ (want o.update) (omega arith) (length_leaf h (cell_of o.update)) (put_same ℕ_discrete G.ver (suc G.used) _) (view_leaf (cell h o) swapped (places (cell h o) swapped swapped_known swapped_cells) ∙ swapped_run)) all_nil
-          swapped_known
-          (dist_cons (all_refused (none_others o.id (at G (cell h o)).waiting)) (distinct_others o.id (sp (cell h o)).once_waiting))
-          (all_cons (all_at (sp (cell h o)).able (ok.waits e)).3 (all_refused (all_others o.id (all_map (λ q p. p.3) (sp (cell h o)).able)))) ops_nil)
-          (λ y n. spot_grow h weight grow_leaf y (at G y) (sp y))
-
-      leaf_step : Step h weight G (swapping o v) (leaf_swap h weight G o, go_up o true 1 (cell h o))
-      leaf_step =
-          up h weight G (NotMe o) NoK (swapping o v) (leaf_swap h weight G o) o true 1 (cell h o) (λ P p. p) kn closed_leaf spot_leaf grow_leaf (λ X a. a) (λ X p. no_k X) (omega (arith, length_leaf h (cell_of o.update))) (below_self (cell h o))
-          (subst (λ a. entry o true ∈ a.reached) (sym (put_same Node-discrete G.spot (cell h o) _)) (Memᴰ.append_right (at G (cell h o)).reached (Memᴰ.head refl)))
-
-    pub try_step : (o : Op) (v : ℕ) → LeafOk h weight G o v → Known h G o → (d : Dec ((at G (cell h o)).current ≡ v)) → Step h weight G (swapping o v) (leaf_try h weight d G o)
-    try_step o v ok old (yes e) = leaf_step o v ok old e
-    try_step o v ok old (no n) = up_only h weight G cl sp (swapping o v) o false 0 (cell h o) (λ P p. p) old (omega (arith, length_leaf h (cell_of o.update))) (below_self (cell h o)) (ok.done n)

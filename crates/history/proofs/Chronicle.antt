@@ -29,8 +29,8 @@ sorted_same [] m a = tt
 sorted_same (p ∷ s) m a = (all_map (λ q e. omega (arith, e, all_head a)) (all_tail a), sorted_same s m (all_tail a))
 
 -- where moments do not fall, the earlier moment stands before
-pub stands_before : (s : List Placed) (p q : Placed) → Sorted s → p ∈ s → q ∈ s → p.moment < q.moment → Before p q s
-stands_before s p q so (Memᴰ.head {x = a} {xs = r} e) m l = go (Memᴰ.cases_cons m)
+pub stands_before : (p q : Placed) (s : List Placed) → Sorted s → p ∈ s → q ∈ s → p.moment < q.moment → Before p q s
+stands_before p q s so (Memᴰ.head {x = a} {xs = r} e) m l = go (Memᴰ.cases_cons m)
   where
     split : {r : List Placed} → q ∈ r → (x : List Placed) × (y : List Placed) × (r ≡ x ++ (q ∷ y))
     split (Memᴰ.head {x = b} {xs = r} f) = ([], r, ap (λ (z : Placed). z ∷ r) (sym f))
@@ -45,7 +45,7 @@ stands_before s p q so (Memᴰ.head {x = a} {xs = r} e) m l = go (Memᴰ.cases_c
     go : (q ≡ a) ⊎ (q ∈ r) → Before p q (a ∷ r)
     go (inl f) = absurd (omega (arith, ap (λ z. z.moment) f, ap (λ z. z.moment) e))
     go (inr f) = made (split f)
-stands_before s p q so (Memᴰ.tail {x = a} {xs = r} m) n l = go (Memᴰ.cases_cons n) (λ f. stands_before r p q so.1 m f l)
+stands_before p q s so (Memᴰ.tail {x = a} {xs = r} m) n l = go (Memᴰ.cases_cons n) (λ f. stands_before p q r so.1 m f l)
   where
     go : (q ≡ a) ⊎ (q ∈ r) → (q ∈ r → Before p q r) → Before p q (a ∷ r)
     go (inl f) k = absurd (omega (arith, ap (λ z. z.moment) f, all_at so.0 m))

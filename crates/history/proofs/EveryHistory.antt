@@ -43,7 +43,8 @@ use Rattle.history.proofs.Beneath.{root_shown}
 use Rattle.history.proofs.Chronicle.{stands_before}
 use Rattle.history.proofs.Placing.{same_book}
 use Rattle.history.proofs.Replay.{view, replay_at}
-use Rattle.history.proofs.Tied.{Came, Querying, resting, Tied}
+use Rattle.history.proofs.UnderWay.{Came, Querying, resting}
+use Rattle.history.proofs.Tied.{Tied}
 use Rattle.history.proofs.OrderGrows.{order_grows}
 use Rattle.history.proofs.OwnSteps.{asks, counted}
 use Rattle.history.proofs.StepCalls.{Belongs, StepTold, step_told_lem}
@@ -108,13 +109,13 @@ module _ (n w : ℕ) where
 -- ---- such a moment has all that is asked
 
 -- a place is told by its operation
-once_same : (s : List Placed) (p q : Placed) → Once s → p ∈ s → q ∈ s → p.id ≡ q.id → p ≡ q
-once_same s p q u (Memᴰ.head {x = a} {xs = r} e) m i = go (Memᴰ.cases_cons m)
+once_same : (p q : Placed) (s : List Placed) → Once s → p ∈ s → q ∈ s → p.id ≡ q.id → p ≡ q
+once_same p q s u (Memᴰ.head {x = a} {xs = r} e) m i = go (Memᴰ.cases_cons m)
   where
     go : (q ≡ a) ⊎ (q ∈ r) → p ≡ q
     go (inl f) = e ∙ sym f
     go (inr f) = absurd (all_at u.0 f (sym i ∙ ap (λ (z : Placed). z.id) e))
-once_same s p q u (Memᴰ.tail {x = a} {xs = r} k) m i = go (Memᴰ.cases_cons m) (λ f. once_same r p q u.1 k f i)
+once_same p q s u (Memᴰ.tail {x = a} {xs = r} k) m i = go (Memᴰ.cases_cons m) (λ f. once_same p q r u.1 k f i)
   where
     go : (q ≡ a) ⊎ (q ∈ r) → (q ∈ r → p ≡ q) → p ≡ q
     go (inl f) g = absurd (all_at u.0 k (i ∙ ap (λ (z : Placed). z.id) f))
@@ -181,14 +182,14 @@ module _ (n w : ℕ) (t : Moment) (b : Belongs n w t.state t.memory) where
       by (StepTold.accepted course e z) = record { course = course; is = e }
 
   precedes : (p q : Placed) (a : Answered) → p ∈ m.order → q ∈ m.order → (m.lives p.id).answer ≡ some a → a.moment < (m.lives q.id).started → Before p q m.order
-  precedes p q a k l e f = stands_before m.order p q T.chronicle.sorted k l (by (T.chronicle.stands p.id a (all_at T.chronicle.started k).0 e))
+  precedes p q a k l e f = stands_before p q m.order T.chronicle.sorted k l (by (T.chronicle.stands p.id a (all_at T.chronicle.started k).0 e))
     where
       by : Stands n m.order p.id (m.lives p.id).operation a → p.moment < q.moment
       by s = omega (
         arith,
         s.by,
         (all_at T.chronicle.started l).2,
-        ap (λ (z : Placed). z.moment) (once_same m.order p (placed p.id (m.lives p.id).operation s.moment) T.chronicle.once k
+        ap (λ (z : Placed). z.moment) (once_same p (placed p.id (m.lives p.id).operation s.moment) m.order T.chronicle.once k
             (subst (λ z. placed p.id (m.lives p.id).operation s.moment ∈ z) (sym s.is) (Memᴰ.append_right s.before (Memᴰ.head refl))) refl),
       )
 
@@ -231,12 +232,12 @@ module _ (n w : ℕ) (t : Moment) (b : Belongs n w t.state t.memory) where
         once = T.chronicle.once;
         started = all_map (λ p k. (k.0, k.1)) T.chronicle.started;
         stands = T.chronicle.stands;
-        after_start_lem = all_map (λ p k. k.2) T.chronicle.started;
+        after_start = all_map (λ p k. k.2) T.chronicle.started;
         precedes = precedes;
         shows = shows;
         in_time = T.chronicle.in_time;
         carried = T.carried;
-        goes_on_lem = goes_on_lem;
+        goes_on = goes_on_lem;
         counted = counted n w t;
         room = promise_room t.state T.promise;
         reached = reached;

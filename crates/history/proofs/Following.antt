@@ -240,3 +240,5 @@ module _ (h : ℕ) where
     advanced p (swapping o w) at_swap e ok k t = subst (λ q. Advanced i m (advance n i q s m) G (step_w h energy_of G (swapping o w))) (sym e) (swap_advanced o w k t)
     advanced p (climbing c st) at_climb e ok k t = subst (λ q. Advanced i m (advance n i q s m) G (step_w h energy_of G (climbing c st))) (sym e)
         (climb_advanced c st (omega (arith, below_length ok.below, length_leaf h (cell_of c.op.update))) t)
+    advanced p idle active e ok k t = elim active [ ]
+    advanced p (answered _ _) active e ok k t = elim active [ ]

@@ -21,7 +21,8 @@ use Rattle.history.proofs.Invariant.{tally, Closed, Inner, Depicts, Known, OnOp,
 use Rattle.history.proofs.Depicting.{Same}
 use Rattle.history.proofs.Growth.{kept, Grow, Good, Step, onop_map, good_inv, spot_grow}
 use Rattle.history.proofs.Building.{NoJ, NoK, no_j, no_k, onclimb_all, move, stay}
-use Rattle.history.proofs.AtLeaf.{read_step, try_step}
+use Rattle.history.proofs.AtLeaf.{read_step}
+use Rattle.history.proofs.LeafSwap.{try_step}
 use Rattle.history.proofs.Refreshes.{step_0, step_1, step_2}
 use Rattle.history.proofs.RefreshSwap.{step_3}
 

@@ -14,6 +14,7 @@ pub mod Depicting
 pub mod Growth
 pub mod Building
 pub mod AtLeaf
+pub mod LeafSwap
 pub mod Once
 pub mod Refreshes
 pub mod RefreshSwap
@@ -40,6 +41,7 @@ pub mod Starts
 pub mod Chronicle
 pub mod Placing
 pub mod Following
+pub mod UnderWay
 pub mod Tied
 pub mod TiedCalls
 pub mod UpdateSteps

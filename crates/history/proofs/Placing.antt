@@ -4,7 +4,6 @@ use Rattle.std.specs.Prelude.{◌≡◌, refl, ◌≢◌, ◌⊎◌, Bool, true,
 use Rattle.std.proofs.Common.{sym, ap, ap₂, ◌∙◌, subst, inl, inr, arith}
 use mathlib.Core.List.Memᴰ
 use Rattle.trie.specs.declared.Update.{Update}
-use Rattle.trie.specs.declared.Query.{Query}
 use Rattle.trie.specs.declared.Operation.{Operation}
 use Rattle.trie.specs.Choice.{pick}
 use Rattle.trie.specs.Record.{cell_of}

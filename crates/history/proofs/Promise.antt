@@ -85,6 +85,8 @@ module _ (h : ℕ) (weight : ℕ → ℕ) (G : Shared) where
   working_owes (reading o) at_read ok = omega arith
   working_owes (swapping o v) at_swap ok = omega arith
   working_owes (climbing c st) at_climb ok = omega (arith, ok.share)
+  working_owes resting active ok = elim active [ ]
+  working_owes (answered _ _) active ok = elim active [ ]
 
 -- ---- the promise
 

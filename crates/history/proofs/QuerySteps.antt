@@ -19,7 +19,7 @@ use Rattle.history.specs.Lists.{All}
 use Rattle.history.specs.Book.{Book, blank, answer}
 use Rattle.history.proofs.PutLaws.{put_same}
 use Rattle.history.proofs.Replay.{view, replay_at}
-use Rattle.history.specs.Order.{Placed, placed, Memory, memory, answer_of, advance, updates}
+use Rattle.history.specs.Order.{Placed, Memory, memory, answer_of, advance, updates}
 use Rattle.history.specs.Histories.{phase_of}
 use Rattle.history.specs.Theorem.{replay, Stands, most_steps}
 use Rattle.history.proofs.Machine.{Shared, idle, at, settled}
@@ -29,7 +29,8 @@ use Rattle.history.proofs.Walks.{Under, finding, ranking, selecting}
 use Rattle.history.proofs.Asked.{Turns, answers, onward as goes, under_busy, under_resting}
 use Rattle.history.proofs.Chronicle.{Places, Turn, onward, same_operation}
 use Rattle.history.proofs.Placing.{updates_append, same_book}
-use Rattle.history.proofs.Tied.{Open, Place, Querying, resting, walking, Tied}
+use Rattle.history.proofs.UnderWay.{Open, Place, Querying, resting, walking}
+use Rattle.history.proofs.Tied.{Tied}
 use Rattle.history.proofs.TiedCalls.{Call, step_tied}
 
 -- a query's step after its reading of the root adds nothing to what is remembered

@@ -223,9 +223,9 @@ pub distinct_right : (s t : List Entry) → Distinct (s ++ t) → Distinct t
 distinct_right [] t d = d
 distinct_right (e ∷ s) t d = distinct_right s t (distinct_tail d)
 
-pub distinct_apart : (s t : List Entry) → Distinct (s ++ t) → {e f : Entry} → e ∈ s → f ∈ t → f.op.id ≢ e.op.id
-distinct_apart s t d {e} {f} (Memᴰ.head {x = a} {xs = r} q) m = subst (λ x. f.op.id ≢ x.op.id) (sym q) (all_at (all_right r (distinct_head d)) m)
-distinct_apart s t d {e} {f} (Memᴰ.tail {x = a} {xs = r} q) m = distinct_apart r t (distinct_tail d) q m
+pub distinct_apart : {e f : Entry} (s t : List Entry) → Distinct (s ++ t) → e ∈ s → f ∈ t → f.op.id ≢ e.op.id
+distinct_apart {e} {f} s t d (Memᴰ.head {x = a} {xs = r} q) m = subst (λ x. f.op.id ≢ x.op.id) (sym q) (all_at (all_right r (distinct_head d)) m)
+distinct_apart {e} {f} s t d (Memᴰ.tail {x = a} {xs = r} q) m = distinct_apart r t (distinct_tail d) q m
 
 pub all_only : {P : Entry → Type 0} (k : ℕ) {s : List Entry} → All P s → All P (only k s)
 all_only k all_nil = all_nil

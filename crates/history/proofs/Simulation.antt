@@ -268,6 +268,8 @@ module _ {h : ℕ} {G : Shared} {nodes versions : List ℕ} {b : Bounds} (v : Vi
   step_plays (reading o) p at_read s ok k = rw s (read_plays o k)
   step_plays (swapping o n) p at_swap s ok k = rw s (try_plays o k n ok)
   step_plays (climbing c st) p at_climb s ok k = rw s (climb_plays c k st ok)
+  step_plays idle p active s ok k = elim active [ ]
+  step_plays (answered _ _) p active s ok k = elim active [ ]
 
 -- ---- the step of a record
 
@@ -275,6 +277,8 @@ pub working_busy : (W : Worker) (p : Phase) → Working W → Shown W p → busy
 working_busy (reading o) p at_read s = rw s
 working_busy (swapping o n) p at_swap s = rw s
 working_busy (climbing c st) p at_climb s = rw s
+working_busy idle p active s = elim active [ ]
+working_busy (answered _ _) p active s = elim active [ ]
 
 -- with the machine's facts at hand, and a version to spare, the step of an update's record is the machine's
 pub step_follows : (n : ℕ) {G : Shared} {nodes versions : List ℕ} (W : Worker) (w : Rattle.trie.specs.declared.Worker.Worker) → allowed n ≡ true → roomy n nodes versions ≡ true

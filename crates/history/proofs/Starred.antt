@@ -4,7 +4,6 @@ use Rattle.std.specs.Prelude.{◌≡◌, refl, List, [], ◌∷◌, ℕ}
 use Rattle.std.proofs.Math.Decide.{ℕ_discrete}
 use Rattle.std.specs.Int.Count.{ones, count_trailing_zeros}
 use Rattle.decibel.specs.Energy.{energy_of}
-use Rattle.trie.specs.declared.Query.{Query}
 use Rattle.trie.specs.declared.Operation.{Operation}
 use Rattle.trie.specs.Size.{allowed, height_of}
 use Rattle.trie.specs.Tables.{room_of, version_at, version_put, roomy}

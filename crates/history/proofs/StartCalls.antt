@@ -6,8 +6,6 @@ use Rattle.std.proofs.Math.Option.{some, none}
 use Rattle.std.proofs.Math.Decide.{ℕ_discrete, dec_lt}
 use Rattle.decibel.specs.Energy.{energy_of}
 use Rattle.decibel.specs.Told.{refused, gives}
-use Rattle.trie.specs.declared.Update.{Update}
-use Rattle.trie.specs.declared.Query.{Query}
 use Rattle.trie.specs.declared.Operation.{Operation}
 use Rattle.trie.specs.declared.Phase.{Phase}
 use Rattle.trie.specs.declared.Worker.{Worker as Record}
@@ -33,7 +31,8 @@ use Rattle.history.proofs.Viewed.{view_begins}
 use Rattle.history.proofs.Kept.{Later, later_refl, start_keeps, start_later, rest_keeps}
 use Rattle.history.proofs.Promise.{Promise}
 use Rattle.history.proofs.Starts.{Begins, turned_away, accepted as granted, begins as starts, begins_promise}
-use Rattle.history.proofs.Tied.{Entered, Querying, asking, Tied}
+use Rattle.history.proofs.UnderWay.{Entered, Querying, asking}
+use Rattle.history.proofs.Tied.{Tied}
 use Rattle.history.proofs.TiedCalls.{Call, start_tied}
 use Rattle.history.proofs.StepCalls.{Belongs}
 

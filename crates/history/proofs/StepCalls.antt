@@ -15,7 +15,7 @@ use Rattle.trie.proofs.SizeLaws.{sized}
 use Rattle.trie.specs.Record.{worker, idle, busy_phase, query_fits}
 use Rattle.trie.specs.Values.{Course}
 use Rattle.trie.specs.Stepping.{Stepped, step_record_of}
-use Rattle.trie.specs.Calls.{State, state, After, manned, step_at, step_of}
+use Rattle.trie.specs.Calls.{State, After, step_at, step_of}
 use Rattle.trie.proofs.CallLaws.{Ready, lent_ready, step_lent, step_of_record, step_no_worker, manned_long}
 use Rattle.history.specs.Lists.{◌∈◌, All, all_nil, all_cons}
 use Rattle.history.proofs.ListLaws.{all_at}
@@ -36,7 +36,8 @@ use Rattle.history.proofs.Walks.{Under}
 use Rattle.history.proofs.Asked.{Turns, under_busy, under_resting, walk_turns, ask_turns, idle_turn}
 use Rattle.history.proofs.Turned.{course_of, told_course}
 use Rattle.history.proofs.Chronicle.{onward, once_append}
-use Rattle.history.proofs.Tied.{Open, Place, UnderWay, Querying, resting, asking, walking, Tied}
+use Rattle.history.proofs.UnderWay.{Open, Place, UnderWay, Querying, resting, asking, walking}
+use Rattle.history.proofs.Tied.{Tied}
 use Rattle.history.proofs.TiedCalls.{Call}
 use Rattle.history.proofs.UpdateSteps.{update_tied}
 use Rattle.history.proofs.QuerySteps.{book_now, walk_adds, Result, query_tied}

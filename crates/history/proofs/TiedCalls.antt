@@ -27,7 +27,8 @@ use Rattle.history.proofs.Promise.{Promise}
 use Rattle.history.proofs.Kept.{Later}
 use Rattle.history.proofs.Chronicle.{Places, Turn, onward, chronicle_step, chronicle_start, same_operation}
 use Rattle.history.proofs.Following.{Remembers, Tasked}
-use Rattle.history.proofs.Tied.{Entered, Came, UnderWay, busy_started, Onward, under_way_kept, Tied}
+use Rattle.history.proofs.UnderWay.{Entered, Came, UnderWay, busy_started}
+use Rattle.history.proofs.Tied.{Onward, under_way_kept, Tied}
 
 came_kept : {h : ℕ} {G G' : Shared} {id : ℕ} {u : Update} {v : _} → Later h energy_of G G' → Came G id u v → Came G' id u v
 came_kept l c = record { result = c.result; told = c.told; at_root_lem = mem_prefix (l.grows []) c.at_root_lem }

@@ -64,6 +64,8 @@ module _ (h : ℕ) (weight : ℕ → ℕ) (G : Shared) where
   turns (climbing c (at_node v)) at_climb = record { op = c.op; its = refl; turned = still at_climb refl }
   turns (climbing c (at_left v l s)) at_climb = record { op = c.op; its = refl; turned = still at_climb refl }
   turns (climbing c (at_both v l s r t)) at_climb = record { op = c.op; its = refl; turned = turned_node c (ℕ_discrete (at G c.node).current v) l s r t }
+  turns idle active = elim active [ ]
+  turns (answered _ _) active = elim active [ ]
 
   same_read : (o : Op) (b : Bool) → ((leaf_read h b G o).0.next ≡ G.next) × ((leaf_read h b G o).0.ops ≡ G.ops)
   same_read o true = (refl, refl)

@@ -26,7 +26,7 @@ use Rattle.history.proofs.Replay.{Truthful, truthful_by_cells, Distinct, distinc
 use Rattle.history.specs.Order.{Placed, placed, Answered, life, Memory, memory, places, advance, answer_of, lived, updates, ops}
 use Rattle.history.specs.Histories.{phase_of}
 use Rattle.history.specs.Theorem.{Once, Stands, most_steps}
-use Rattle.history.proofs.Machine.{Shared, nothing, at_node, at_left, at_both, Worker, reading, swapping, climbing, at, step_w, settled}
+use Rattle.history.proofs.Machine.{Shared, nothing, at_node, at_left, at_both, Worker, idle, reading, swapping, climbing, answered, at, step_w, settled}
 use Rattle.history.proofs.Machine.{State as Machine}
 use Rattle.history.proofs.Invariant.{Known, OnOp, WorkerOk, Inv}
 use Rattle.history.proofs.Once.{truth_at, once_at}
@@ -37,7 +37,8 @@ use Rattle.history.proofs.Turned.{Turned, still, ended, Outcome, turns, course_o
 use Rattle.history.proofs.Chronicle.{Turn, onward, once_append, same_operation}
 use Rattle.history.proofs.Placing.{ops_append, updates_append, updates_places, Found, found, not_placed, once_places, all_places}
 use Rattle.history.proofs.Following.{Tasked, Advanced, advanced}
-use Rattle.history.proofs.Tied.{Came, Updating, UnderWay, Tied}
+use Rattle.history.proofs.UnderWay.{Came, Updating, UnderWay}
+use Rattle.history.proofs.Tied.{Tied}
 use Rattle.history.proofs.TiedCalls.{Call, Step, step_tied}
 
 -- an update under way has steps left
@@ -48,27 +49,37 @@ left_some h (climbing c nothing) at_climb = omega arith
 left_some h (climbing c (at_node v)) at_climb = omega arith
 left_some h (climbing c (at_left v l s)) at_climb = omega arith
 left_some h (climbing c (at_both v l s r t)) at_climb = omega arith
+left_some h idle active = elim active [ ]
+left_some h (answered _ _) active = elim active [ ]
 
 module _ (h : ℕ) (m : Memory) (G : Shared) (id : ℕ) (o : Op) where
   to_updating : (W : Worker) (p : Phase) → Working W → OnOp (λ q. q ≡ o) W → UnderWay h m G id W p → Updating h m id o.update (steps_left h W)
   to_updating (reading q) p at_read e u = subst (λ (z : Op). Updating h m id z.update (steps_left h (reading q))) e u
   to_updating (swapping q v) p at_swap e u = subst (λ (z : Op). Updating h m id z.update (steps_left h (swapping q v))) e u
   to_updating (climbing c st) p at_climb e u = subst (λ (z : Op). Updating h m id z.update (steps_left h (climbing c st))) e u
+  to_updating idle p active e u = elim active [ ]
+  to_updating (answered _ _) p active e u = elim active [ ]
 
   from_updating : (W : Worker) (p : Phase) → Working W → OnOp (λ q. q ≡ o) W → Updating h m id o.update (steps_left h W) → UnderWay h m G id W p
   from_updating (reading q) p at_read e u = subst (λ (z : Op). Updating h m id z.update (steps_left h (reading q))) (sym e) u
   from_updating (swapping q v) p at_swap e u = subst (λ (z : Op). Updating h m id z.update (steps_left h (swapping q v))) (sym e) u
   from_updating (climbing c st) p at_climb e u = subst (λ (z : Op). Updating h m id z.update (steps_left h (climbing c st))) (sym e) u
+  from_updating idle p active e u = elim active [ ]
+  from_updating (answered _ _) p active e u = elim active [ ]
 
 op_id : (t : _) (o : Op) (W : Worker) → Working W → OnOp (λ q. q ≡ o) W → Tasked t W → t.id ≡ o.id
 op_id t o (reading q) at_read e k = k ∙ ap (λ (z : Op). z.id) e
 op_id t o (swapping q v) at_swap e k = k ∙ ap (λ (z : Op). z.id) e
 op_id t o (climbing c st) at_climb e k = k.0 ∙ ap (λ (z : Op). z.id) e
+op_id t o idle active e k = elim active [ ]
+op_id t o (answered _ _) active e k = elim active [ ]
 
 still_on : (W : Worker) → Working W → (m : ℕ) → answer_of m (course_of W) ≡ none
 still_on (reading o) at_read m = refl
 still_on (swapping o v) at_swap m = refl
 still_on (climbing c st) at_climb m = refl
+still_on idle active m = elim active [ ]
+still_on (answered _ _) active m = elim active [ ]
 
 module _ (n w : ℕ) (σ : Machine) (s : State) (m : Memory) (i : ℕ) (inside : i < w) (T : Tied n w σ s m) (working : Working (σ.workers i)) where
   abbrev height : ℕ

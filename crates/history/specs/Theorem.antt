@@ -114,7 +114,7 @@ module _ (n w : ℕ) (t : Moment) where
     -- b, c, d: its place is no later than its answer, and its answer is the book's
     pub stands : (id : ℕ) (a : Answered) → id < t.memory.starts → (its id).answer ≡ some a → Stands n order id (its id).operation a
     -- c: its place is after its start; hence an operation answered before another starts stands before it
-    pub after_start_lem : All (λ p. (its p.id).started < p.moment) order
+    pub after_start : All (λ p. (its p.id).started < p.moment) order
     pub precedes : (p q : Placed) (a : Answered) → p ∈ order → q ∈ order → (its p.id).answer ≡ some a → a.moment < (its q.id).started → Before p q order
     -- e: the root's version shows the book of all updates placed so far
     pub shows : Shows (height_of n) t.state.versions (current_of t.state.nodes 1).0 (replay blank order)
@@ -122,7 +122,7 @@ module _ (n w : ℕ) (t : Moment) where
     -- every accepted step is one own step of the worker's operation and of no other
     pub in_time : (id : ℕ) → id < t.memory.starts → InTime (height_of n) (its id).operation (its id).steps (its id).answer
     pub carried : (id : ℕ) → id < t.memory.starts → (its id).answer ≡ none → Carried w t.state t.memory id
-    pub goes_on_lem : (i : ℕ) → i < w → busy_phase (phase_of i t.state) ≡ true → Accepts n w i t.state
+    pub goes_on : (i : ℕ) → i < w → busy_phase (phase_of i t.state) ≡ true → Accepts n w i t.state
     pub counted : (i : ℕ) (course : Course) → (step_of n w i t.state).told ≡ gives course
         → (id : ℕ) → ((called n w (step i) t).memory.lives id).steps ≡ pick (eqb id (t.memory.tasks i).id) 1 0 + (its id).steps
     -- g: an accepted update never lacks a version
