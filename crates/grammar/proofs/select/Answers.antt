@@ -1,6 +1,5 @@
 -- `grammar::select` meets its contract.
 -- Assumes nothing.
-use borrow.Author.Rules.{rules}
 use Rattle.grammar.proofs.select.Goals as goal
 
 pub returns-in-Is : goal.returns-in-Is

@@ -1,6 +1,5 @@
 -- `grammar::step` meets its contract.
 -- Assumes nothing.
-use borrow.Author.Rules.{rules}
 use Rattle.grammar.proofs.step.Goals as goal
 
 pub returns-in-Is : goal.returns-in-Is
