@@ -3,28 +3,24 @@
 #![tactic(auto)]
 
 use decibel::{Converted, Level};
-use libc::STDOUT_FILENO;
+use std::io;
 
-fn write_answer(answer: Converted) {
+fn write_answer(rt: &impl Print, answer: Converted) -> io::Result<()> {
     match answer {
-        Converted::Is(energy) => {
-            io::print_decimal(STDOUT_FILENO, energy.0);
-        }
-        Converted::TooLoud => {
-            io::write_all(STDOUT_FILENO, b"refused 7");
-        }
+        Converted::Is(energy) => print!(rt; "{}", energy.0),
+        Converted::TooLoud => print!(rt; "refused 7"),
     }
 }
 
-fn write_level(level: u64) {
-    io::print_decimal(STDOUT_FILENO, level);
-    io::write_all(STDOUT_FILENO, b" ");
-    write_answer(decibel::convert(Level(level)));
-    io::write_all(STDOUT_FILENO, b"\n");
+fn write_level(rt: &impl Print, level: u64) -> io::Result<()> {
+    print!(rt; "{level} ")?;
+    write_answer(rt, decibel::convert(Level(level)))?;
+    println!(rt)
 }
 
-fn main() {
+fn main(rt: HostRuntime) -> io::Result<()> {
     for level in 0..63u64 {
-        write_level(level);
+        write_level(&rt, level)?;
     }
+    Ok(())
 }

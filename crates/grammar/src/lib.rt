@@ -8,7 +8,7 @@ ghost use Rattle.grammar.specs.Grammar.{starts, ended, number_of, one_of, first_
 use decibel::Level;
 use trie::{Operation, Query, Update};
 
-#[derive(Drop)]
+#[derive(Clone, Copy)]
 pub enum Command {
     Step(u64),
     Start(u64, Operation),
@@ -16,40 +16,40 @@ pub enum Command {
 }
 
 // A line: one of the commands, or not.
-#[derive(Drop)]
+#[derive(Clone, Copy)]
 pub enum Line {
     Is(Command),
     Not,
 }
 
 // A number at the start of the bytes, and where what follows it begins.
-#[derive(Drop)]
+#[derive(Clone, Copy)]
 pub enum Number {
     Is(u64, usize),
     Not,
 }
 
 // One, two or three numbers, parted by one space each, that are all of the bytes.
-#[derive(Drop)]
+#[derive(Clone, Copy)]
 pub enum One {
     Is(u64),
     Not,
 }
 
-#[derive(Drop)]
+#[derive(Clone, Copy)]
 pub enum Two {
     Is(u64, u64),
     Not,
 }
 
-#[derive(Drop)]
+#[derive(Clone, Copy)]
 pub enum Three {
     Is(u64, u64, u64),
     Not,
 }
 
 // An operation with its arguments.
-#[derive(Drop)]
+#[derive(Clone, Copy)]
 pub enum Asked {
     Is(Operation),
     Not,

@@ -7,6 +7,8 @@ ghost use Rattle.lines.specs.Watch.{history};
 ghost use Rattle.lines.specs.Chunks.{zeros};
 
 use lines::{Begun, History, LONGEST_LINE, NODE_TABLE, Served, VERSION_TABLE};
+use std::io;
+use std::io::{Read, Write};
 use trie::{MOST_WORKERS, Phase, Worker};
 
 // Before the first accepted open.
@@ -30,7 +32,7 @@ fn blank() -> Begun
     }
 }
 
-fn main() {
+fn main(rt: HostRuntime) -> io::Result<()> {
     let mut chunk = [0u8; 16384];
     let mut out = [0u8; 1048576];
     let mut nodes = [0u64; NODE_TABLE];
@@ -38,15 +40,8 @@ fn main() {
     let mut board = [Worker { phase: Phase::Idle }; MOST_WORKERS];
     let mut history = fresh();
     let mut begun = blank();
-    let mut turns = u64::MAX;
-    while turns > 0 {
-        turns -= 1;
-        let got = libc::read(0, &mut chunk);
-        if got < 0 {
-            io::write_all(2, b"listing: standard input cannot be read\n");
-            return;
-        }
-        let n = io::count(got, &chunk);
+    for _ in 0..u64::MAX {
+        let n = read(&rt, &mut rt.stdin(), &mut chunk)?;
         let served = serve(
             &chunk,
             n,
@@ -61,11 +56,23 @@ fn main() {
         history = served.history;
         board = served.board;
         let filled = served.filled;
-        if !write(&out, filled) {
-            return;
+        if !write(&rt, &out, filled)? {
+            return Ok(());
         }
         if n == 0 {
-            return;
+            return Ok(());
+        }
+    }
+    Ok(())
+}
+
+// Reads what comes next of the input, of which there is none left where the count is 0; where that fails, says so.
+fn read(rt: &impl Eprint, input: &mut impl Read, chunk: &mut [u8; 16384]) -> io::Result<usize> {
+    match input.read(chunk) {
+        Ok(n) => Ok(n),
+        Err(e) => {
+            eprintln!(rt; "listing: standard input cannot be read")?;
+            Err(e)
         }
     }
 }
@@ -88,17 +95,19 @@ fn serve(
 }
 
 // Writes the answers; where that fails, says so.
-fn write(out: &[u8; 1048576], filled: usize) -> bool {
-    write_first(out, filled)
+fn write(rt: &(impl Print + Eprint), out: &[u8; 1048576], filled: usize) -> io::Result<bool> {
+    write_first(rt, out, filled)
 }
 
-fn write_first(out: &[u8], filled: usize) -> bool {
+fn write_first(rt: &(impl Print + Eprint), out: &[u8], filled: usize) -> io::Result<bool> {
     if out.len() < filled {
-        return false;
+        return Ok(false);
     }
-    if io::write_all(1, &out[..filled]) {
-        return true;
+    match io::writer(rt).write_all(&out[..filled]) {
+        Ok(()) => Ok(true),
+        Err(e) => {
+            eprintln!(rt; "listing: standard output cannot be written")?;
+            Err(e)
+        }
     }
-    io::write_all(2, b"listing: standard output cannot be written\n");
-    false
 }

@@ -4,7 +4,6 @@ use mathlib.Core.Path.{sym, ◌∙◌}
 use native.Mathlib.Omega.{arith}
 use Rattle.grammar.specs.Grammar.{command_of}
 use Rattle.grammar.proofs.Laws.{rest, starts_length}
-use borrow.Author.Rules.{rules}
 use Rattle.grammar.proofs.read_command.Goals as goal
 
 pub returns-then-starts_with : goal.returns-then-starts_with
@@ -37,3 +36,21 @@ returns c =
     let starts_with2 = c.starts_with-2 in
     simp
     (sym starts_with.ensures ∙ if1.false, sym starts_with2.ensures ∙ c.if-starts_with-2.false, sym c.starts_with-3.ensures ∙ c.if-starts_with-3.false)
+
+pub slice_bounds-read_one-count : goal.slice_bounds-read_one-count
+slice_bounds-read_one-count c = let h = starts_length _ _ (sym c.starts_with.ensures ∙ c.if-starts_with.true) in omega arith
+
+pub slice_bounds-read_one-start : goal.slice_bounds-read_one-start
+slice_bounds-read_one-start c = let h = starts_length _ _ (sym c.starts_with.ensures ∙ c.if-starts_with.true) in omega arith
+
+pub slice_bounds-read_start-count : goal.slice_bounds-read_start-count
+slice_bounds-read_start-count c = let h = starts_length _ _ (sym c.starts_with-2.ensures ∙ c.if-starts_with-2.true) in omega arith
+
+pub slice_bounds-read_start-start : goal.slice_bounds-read_start-start
+slice_bounds-read_start-start c = let h = starts_length _ _ (sym c.starts_with-2.ensures ∙ c.if-starts_with-2.true) in omega arith
+
+pub slice_bounds-read_three-count : goal.slice_bounds-read_three-count
+slice_bounds-read_three-count c = let h = starts_length _ _ (sym c.starts_with-3.ensures ∙ c.if-starts_with-3.true) in omega arith
+
+pub slice_bounds-read_three-start : goal.slice_bounds-read_three-start
+slice_bounds-read_three-start c = let h = starts_length _ _ (sym c.starts_with-3.ensures ∙ c.if-starts_with-3.true) in omega arith

@@ -4,7 +4,6 @@ use mathlib.Core.Path.{sym, ◌∙◌}
 use borrow.Author.Tests.{eq-eqb, ne_eqb}
 use lib.ListN.{get_or-eq_default}
 use Rattle.grammar.specs.Grammar.{first_of}
-use borrow.Author.Rules.{rules}
 use Rattle.grammar.proofs.read_first.Goals as goal
 
 pub returns-then-s-n-eq32 : goal.returns-then-s-n-eq32

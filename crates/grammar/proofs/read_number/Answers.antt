@@ -1,21 +1,11 @@
 -- `grammar::read_number` meets its contract. The digits so far and the bytes that are left come to the same number.
 -- Assumes nothing.
-use mathlib.Core.Path.{◌≡◌, sym, ◌∙◌}
-use Prim.Native.Nat.{◌≤◌, ◌<◌, ◌-◌, ◌^◌}
+use mathlib.Core.Path.{sym, ◌∙◌}
 use native.Mathlib.Omega.{arith}
-use lib.ListN.{length, drop}
 use borrow.Author.Rules.{rules}
-use Rattle.grammar.specs.Grammar.{digits, number_of}
+use Rattle.grammar.specs.Grammar.{number_of}
 use Rattle.grammar.proofs.Laws.{digit_low, digit_high, digit_on, digits_done, digits_over, ten, small}
 use Rattle.grammar.proofs.read_number.Goals as goal
-
--- OLD abbrev invariant-loop : tie.invariant-loop
--- OLD invariant-loop s i₀ v₀ i v = (i ≤ length s) × (i ≤ 18) × (v < 10 ^ i) × (digits i v (drop i s) ≡ number_of s)
--- OLD 
-
--- OLD abbrev decreases-loop : tie.decreases-loop
--- OLD decreases-loop s i₀ v₀ i v = length s - i
--- OLD 
 
 pub loop-i-init : goal.loop-i-init
 unfolding number_of
@@ -44,13 +34,12 @@ pub overflow_add-v : goal.overflow_add-v
 overflow_add-v c = omega (arith, small c.loop-i.i (omega arith))
 
 pub loop-i-preserved : goal.loop-i-preserved
-loop-i-preserved c =
-    (
-      omega arith,
-      omega arith,
-      ten _ _ _ c.loop-i.invariant.2 (omega arith),
-      sym (digit_on _ _ _ _ c.loop-i-test.true c.wide-b.ensures c.if-b-lt48.false c.if-b-gt57.false) ∙ c.loop-i.invariant.3,
-    )
+loop-i-preserved c = (
+  omega arith,
+  omega arith,
+  ten _ _ _ c.loop-i.invariant.2 (omega arith),
+  sym (digit_on _ _ _ _ c.loop-i-test.true c.wide-b.ensures c.if-b-lt48.false c.if-b-gt57.false) ∙ c.loop-i.invariant.3,
+)
 
 pub returns : goal.returns
 returns c = c.finished-2.ensures ∙ sym (digits_done _ _ _ c.loop-i-test.false) ∙ c.loop-i.invariant.3

@@ -1,7 +1,6 @@
 -- `grammar::read_one` meets its contract.
 -- Assumes nothing.
 use mathlib.Core.Path.{sym, ◌∙◌}
-use borrow.Author.Rules.{rules}
 use borrow.Author.Tests.{eq-eqb, ne_eqb}
 use Rattle.grammar.specs.Grammar.{one_of}
 use Rattle.grammar.proofs.read_one.Goals as goal

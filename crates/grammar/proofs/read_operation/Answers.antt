@@ -2,7 +2,6 @@
 -- Assumes nothing.
 use mathlib.Core.Path.{sym, ◌∙◌}
 use Rattle.grammar.specs.Grammar.{operation_of}
-use borrow.Author.Rules.{rules}
 use Rattle.grammar.proofs.read_operation.Goals as goal
 
 pub returns-in-Is : goal.returns-in-Is

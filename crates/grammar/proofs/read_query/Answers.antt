@@ -4,7 +4,6 @@ use mathlib.Core.Path.{sym, ◌∙◌}
 use native.Mathlib.Omega.{arith}
 use Rattle.grammar.specs.Grammar.{query_of}
 use Rattle.grammar.proofs.Laws.{rest, starts_length}
-use borrow.Author.Rules.{rules}
 use Rattle.grammar.proofs.read_query.Goals as goal
 
 pub returns-then-starts_with : goal.returns-then-starts_with
@@ -52,3 +51,21 @@ returns c =
     let starts_with3 = c.starts_with-3 in
     simp
     (sym starts_with.ensures ∙ if1.false, sym starts_with2.ensures ∙ if2.false, sym starts_with3.ensures ∙ c.if-starts_with-3.false, sym c.starts_with-4.ensures ∙ c.if-starts_with-4.false)
+
+pub slice_bounds-read_one-count : goal.slice_bounds-read_one-count
+slice_bounds-read_one-count c = let h = starts_length _ _ (sym c.starts_with.ensures ∙ c.if-starts_with.true) in omega arith
+
+pub slice_bounds-read_one-start : goal.slice_bounds-read_one-start
+slice_bounds-read_one-start c = let h = starts_length _ _ (sym c.starts_with.ensures ∙ c.if-starts_with.true) in omega arith
+
+pub slice_bounds-read_one-count-then-starts_with-2 : goal.slice_bounds-read_one-count-then-starts_with-2
+slice_bounds-read_one-count-then-starts_with-2 c = let h = starts_length _ _ (sym c.starts_with-2.ensures ∙ c.if-starts_with-2.true) in omega arith
+
+pub slice_bounds-read_one-start-then-starts_with-2 : goal.slice_bounds-read_one-start-then-starts_with-2
+slice_bounds-read_one-start-then-starts_with-2 c = let h = starts_length _ _ (sym c.starts_with-2.ensures ∙ c.if-starts_with-2.true) in omega arith
+
+pub slice_bounds-read_one-count-then-starts_with-3 : goal.slice_bounds-read_one-count-then-starts_with-3
+slice_bounds-read_one-count-then-starts_with-3 c = let h = starts_length _ _ (sym c.starts_with-3.ensures ∙ c.if-starts_with-3.true) in omega arith
+
+pub slice_bounds-read_one-start-then-starts_with-3 : goal.slice_bounds-read_one-start-then-starts_with-3
+slice_bounds-read_one-start-then-starts_with-3 c = let h = starts_length _ _ (sym c.starts_with-3.ensures ∙ c.if-starts_with-3.true) in omega arith

@@ -1,22 +1,9 @@
 -- `grammar::starts_with` meets its contract. What is the same so far, and what is left of the word and of the bytes, decide as the whole does.
 -- Assumes nothing.
-use mathlib.Core.Path.{◌≡◌, refl, sym}
-use mathlib.Core.Bool.{◌&&◌}
-use Prim.Native.Nat.{◌≤◌, ◌-◌}
+use mathlib.Core.Path.{refl, sym}
 use native.Mathlib.Omega.{arith}
-use lib.ListN.{length, drop}
-use borrow.Author.Rules.{rules}
-use Rattle.grammar.specs.Grammar.{starts}
 use Rattle.grammar.proofs.Laws.{starts_more, starts_short, starts_done}
 use Rattle.grammar.proofs.starts_with.Goals as goal
-
--- OLD abbrev invariant-loop : tie.invariant-loop
--- OLD invariant-loop word s same₀ i₀ same i = (i ≤ length word) × ((same && starts (drop i word) (drop i s)) ≡ starts word s)
--- OLD 
-
--- OLD abbrev decreases-loop : tie.decreases-loop
--- OLD decreases-loop word s same₀ i₀ same i = length word - i
--- OLD 
 
 pub returns-then-s-word : goal.returns-then-s-word
 returns-then-s-word c = sym (starts_short _ _ c.if-s-word.true)

@@ -1,7 +1,0 @@
--- `grammar::start` meets its contract.
--- Assumes nothing.
-use borrow.Author.Rules.{rules}
-use Rattle.grammar.proofs.start.Goals as goal
-
-pub returns-in-Is : goal.returns-in-Is
-returns-in-Is c = simp c.in-Is.is
