@@ -16,7 +16,7 @@ pub(crate) fn share(n: u64) -> u64
 }
 
 // The updates among some workers: how many there are, how many versions they have made, and whether each is within its share.
-#[derive(Drop)]
+#[derive(Clone, Copy)]
 struct Tally {
     updates: u64,
     made: u64,

@@ -26,7 +26,7 @@ pub const NODE_TABLE: usize = 32;
 pub const VERSION_TABLE: usize = 5000;
 
 // The N, W and V of the history that is under way; zeros before the first accepted open.
-#[derive(Drop)]
+#[derive(Clone, Copy)]
 pub struct History {
     pub cells: u64,
     pub workers: u64,
@@ -34,21 +34,21 @@ pub struct History {
 }
 
 // The bytes of a line whose end has not come yet, with zeros behind them; 41 held stands for more than 40.
-#[derive(Drop)]
+#[derive(Clone, Copy)]
 pub struct Begun {
     pub bytes: [u8; LONGEST_LINE],
     pub held: usize,
 }
 
 // What a line answers.
-#[derive(Drop)]
+#[derive(Clone, Copy)]
 pub enum Reply {
     Accepted(Accepted),
     Progress(Progress),
 }
 
 // The call that a line makes: 2 a start, 3 an open; or 0 and the number of its refusal.
-#[derive(Drop)]
+#[derive(Clone, Copy)]
 pub struct Call {
     pub kind: u64,
     pub number: u64,
@@ -57,14 +57,14 @@ pub struct Call {
 }
 
 // A line's answer, with the history after it.
-#[derive(Drop)]
+#[derive(Clone, Copy)]
 pub struct Turn {
     pub reply: Reply,
     pub history: History,
 }
 
 // The line that is next, where it begins and ends, the history before it, and where the text of the answers ends.
-#[derive(Drop)]
+#[derive(Clone, Copy)]
 pub struct Place {
     pub line: Line,
     pub from: usize,
@@ -75,7 +75,7 @@ pub struct Place {
 
 // A step among the lines of a chunk: its worker, where its line begins and ends, and where the text of the answers ends.
 // Where `on` is false the run of steps has ended, and the next line begins at `from`.
-#[derive(Drop)]
+#[derive(Clone, Copy)]
 pub struct Run {
     pub number: u64,
     pub from: usize,
@@ -85,7 +85,7 @@ pub struct Run {
 }
 
 // What is kept from one chunk to the next, and where the text of the answers ends.
-#[derive(Drop)]
+#[derive(Clone, Copy)]
 pub struct Served {
     pub begun: Begun,
     pub history: History,

@@ -4,7 +4,7 @@ ghost use Rattle.std.specs.Prelude.{◌≡◌, ◌+◌, ◌*◌, ◌^◌, ◌≤
 ghost use Rattle.trie.specs.Choice.{pick};
 ghost use Rattle.lines.specs.Places.{is_step, digit_of, Found};
 
-#[derive(Drop)]
+#[derive(Clone, Copy)]
 pub(crate) enum Short {
     Not,
     Step(u64, usize),

@@ -2,7 +2,6 @@
 // Node and version numbers, levels and energies are types of their own, so that none stands in for another.
 #![tactic(auto)]
 
-
 use decibel::{Energy, Level};
 
 // The most cells of a ping, the height of their tree, the most workers, the most versions, and the words of one.

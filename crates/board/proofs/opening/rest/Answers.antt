@@ -12,7 +12,9 @@ loop-i-init c = (omega arith, refl, sym (rests_none c.args.board.now), c.rested-
 
 pub loop-i-preserved : goal.loop-i-preserved
 loop-i-preserved c =
-    let kept = c.loop-i.invariant in
-    (omega arith, length-set _ _ _ ∙ kept.1,
-    (λ j. set (kept.2 j) c.loop-i.i (kept.3 j)) ∙ rests_next c.loop-i.i c.args.board.now ∙ ap (λ (k : ℕ). open_board k c.args.board.now) (sym (add-one c.loop-i.i)),
-    kept.3)
+    let kept = c.loop-i.invariant in (
+      omega arith,
+      length-set _ _ _ ∙ kept.1,
+      (λ j. set (kept.2 j) c.loop-i.i (kept.3 j)) ∙ rests_next c.loop-i.i c.args.board.now ∙ ap (λ (k : ℕ). open_board k c.args.board.now) (sym (add-one c.loop-i.i)),
+      kept.3,
+    )

@@ -8,15 +8,17 @@ use Rattle.board.proofs.promising.promised.Goals as goal
 
 pub count_in-sum-requires : goal.count_in-sum-requires
 count_in-sum-requires c =
-    let same = c.loop-i.invariant.1 in
-    (omega (arith, c.requires.1, ap (λ (t : Tally). t.updates) same, tally_updates c.args.share c.loop-i.i c.args.board.now),
-    omega (arith, c.requires.1, ap (λ (t : Tally). t.made) same, tally_made c.args.share c.loop-i.i c.args.board.now))
+    let same = c.loop-i.invariant.1 in (
+      omega (arith, c.requires.1, ap (λ (t : Tally). t.updates) same, tally_updates c.args.share c.loop-i.i c.args.board.now),
+      omega (arith, c.requires.1, ap (λ (t : Tally). t.made) same, tally_made c.args.share c.loop-i.i c.args.board.now),
+    )
 
 pub still_due-requires : goal.still_due-requires
 still_due-requires c =
-    let same = sym c.loop-i.invariant.1 in
-    (subst (λ (t : Tally). t.updates * c.args.share < 18446744073709551616) same (omega (arith, c.requires.1, tally_due c.args.share c.loop-i.i c.args.board.now c.requires.0)),
-    subst (λ (t : Tally). t.within ≡ true → t.made ≤ t.updates * c.args.share) same (tally_within c.args.share c.loop-i.i c.args.board.now))
+    let same = sym c.loop-i.invariant.1 in (
+      subst (λ (t : Tally). t.updates * c.args.share < 18446744073709551616) same (omega (arith, c.requires.1, tally_due c.args.share c.loop-i.i c.args.board.now c.requires.0)),
+      subst (λ (t : Tally). t.within ≡ true → t.made ≤ t.updates * c.args.share) same (tally_within c.args.share c.loop-i.i c.args.board.now),
+    )
 
 pub returns : goal.returns
 returns c =

@@ -44,7 +44,7 @@ pub returns-then-refusal-eq0 : goal.returns-then-refusal-eq0
 returns-then-refusal-eq0 c =
     let s = state c.args.nodes.now c.args.versions.now c.args.board.now in
     let same : c.promised-sum.result ≡ promised_of (height_of c.args.n + 1) c.args.w c.args.board.now =
-        c.promised-sum.ensures ∙ ap (λ (k : ℕ). promised_of k c.args.w c.args.board.now) c.share.ensures in
+    c.promised-sum.ensures ∙ ap (λ (k : ℕ). promised_of k c.args.w c.args.board.now) c.share.ensures in
     (λ j. after (accepted_of (c.accepted_after.ensures j)) (state c.args.nodes.now c.args.versions.now (set c.args.board.now c.args.i (c.worker_after.ensures j))))
     ∙ ap (start_at c.args.i s)
     (c.start_record-begun.ensures ∙ ap (λ (p : Promised). start_record_of c.args.n c.args.o p (get_or c.args.board.now c.args.i idle) c.args.nodes.now c.args.versions.now) same)

@@ -1,0 +1,14 @@
+-- `lines::keeping::close` meets its contract.
+-- Assumes nothing.
+use mathlib.Core.Path.{ap, ◌∙◌}
+use Rattle.lines.specs.Chunks.{begun_of}
+use Rattle.lines.proofs.RunLaws.{keeps_first, keeps_later}
+use borrow.Author.Rules.{rules}
+use Rattle.lines.proofs.keeping.close.Goals as goal
+
+pub returns-then-from-eq0 : goal.returns-then-from-eq0
+returns-then-from-eq0 c = c.keep.ensures ∙ ap begun_of (keeps_first c.args.begun c.args.chunk.now _ c.if-from-eq0.true)
+
+pub returns : goal.returns
+returns c =
+    c.keep-2.ensures ∙ ap begun_of (keeps_later c.args.begun c.args.chunk.now _ c.if-from-eq0.false)

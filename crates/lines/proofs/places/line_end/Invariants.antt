@@ -1,0 +1,16 @@
+-- What the loop of `places/line_end` keeps, and how it ends.
+use mathlib.Core.Path.{◌≡◌}
+use mathlib.Core.Bool.{true}
+use Prim.Native.Nat.{◌≤◌, ◌-◌}
+use native.Mathlib.Omega.{arith}
+use borrow.Author.Rules.{rules}
+use lib.ListN.{length}
+use Rattle.lines.specs.Feeding.{plain, between}
+use Rattle.lines.proofs.Feeds.{plain_none, plain_next}
+use Rattle.lines.proofs.places.line_end.Given as goal
+
+abbrev pub invariant-loop-i : goal.invariant-loop-i
+invariant-loop-i l = (l.from ≤ l.i) × (l.i ≤ length l.chunk) × (plain (between l.chunk l.from l.i) ≡ true)
+
+abbrev pub decreases-loop-i : goal.decreases-loop-i
+decreases-loop-i l = length l.chunk - l.i

@@ -1,0 +1,10 @@
+-- `lines::text::put_number` meets its contract.
+-- Assumes nothing.
+use native.Mathlib.Omega.{arith}
+use Rattle.grammar.proofs.Texts.{put_both, put_as, number_text}
+use borrow.Author.Rules.{rules}
+use Rattle.lines.proofs.text.put_number.Goals as goal
+
+pub returns : goal.returns
+returns c =
+    (put_as _ _ _ _ _ _ (number_text c.args.v) (put_both _ _ _ _ _ _ _ _ (omega (arith, c.requires, c.spell-a.ensures.0.ends, c.spell-a.ensures.1)) c.spell-a.ensures.0 c.put.ensures), omega (arith, c.spell-a.ensures.1, c.put.ensures.ends))

@@ -1,0 +1,10 @@
+-- `lines::text::put_refused` meets its contract.
+-- Assumes nothing.
+use native.Mathlib.Omega.{arith}
+use Rattle.grammar.proofs.Texts.{put_both, put_as, refused_text_lem}
+use borrow.Author.Rules.{rules}
+use Rattle.lines.proofs.text.put_refused.Goals as goal
+
+pub returns : goal.returns
+returns c =
+    (put_as _ _ _ _ _ _ (refused_text_lem c.args.number) (put_both _ _ _ _ _ _ _ _ (omega (arith, c.requires, c.spell-a.ensures.0.ends, c.spell-a.ensures.1)) c.spell-a.ensures.0 c.put.ensures), omega (arith, c.spell-a.ensures.1, c.put.ensures.ends))

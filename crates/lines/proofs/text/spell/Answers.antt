@@ -1,0 +1,21 @@
+-- `lines::text::spell` meets its contract.
+-- Assumes nothing.
+use mathlib.Core.Path.{ap, ◌∙◌}
+use native.Mathlib.Omega.{arith}
+use mathlib.Core.List.{◌++◌}
+use Rattle.grammar.proofs.Texts.{twenty, decimal_is, put_both, put_as}
+use borrow.Author.Rules.{rules}
+use Rattle.lines.proofs.text.spell.Goals as goal
+
+pub put-requires : goal.put-requires
+put-requires c =
+    let h = twenty _ _ c.ranges.v.fits c.decimal-k.ensures.1.0 in
+    omega (arith, c.decimal-k.ensures.0, c.put-a.ensures.ends, c.put-a, c.out-1, c.requires)
+
+pub returns : goal.returns
+returns c =
+    let h = twenty _ _ c.ranges.v.fits c.decimal-k.ensures.1.0 in
+    let e = c.decimal-k.ensures.1.1 ∙ decimal_is _ _ c.ranges.v.fits c.decimal-k.ensures.1.0 in (
+      put_as _ _ _ _ _ _ (ap (λ x. c.args.word.now ++ x) e) (put_both _ _ _ _ _ _ _ _ (omega (arith, c.requires)) c.put-a.ensures c.put.ensures),
+      omega (arith, c.decimal-k.ensures.0, c.put-a.ensures.ends, c.put.ensures.ends, c.requires),
+    )
