@@ -5,7 +5,6 @@ use native.Mathlib.Omega.{arith}
 use borrow.Author.Tests.{le-leb, lt-leb}
 use Rattle.trie.specs.Record.{climb_fits}
 use Rattle.records.proofs.Tests.{fits_cell}
-use borrow.Author.Rules.{rules}
 use Rattle.records.proofs.climb_fits.Goals as goal
 
 pub returns-then-n-gt-MOST_CELLS : goal.returns-then-n-gt-MOST_CELLS

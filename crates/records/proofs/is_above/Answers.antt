@@ -3,7 +3,6 @@
 use Prim.Native.Nat.{◌/◌}
 use native.Mathlib.Omega.{arith}
 use lib.Count.{leading_le}
-use borrow.Author.Rules.{rules}
 use Rattle.records.proofs.Zeros.{half_zeros}
 use Rattle.records.proofs.Paths.{above_drop}
 use Rattle.records.proofs.is_above.Goals as goal

@@ -1,6 +1,5 @@
 -- `records::operation_fits` meets its contract.
 -- Assumes nothing.
-use borrow.Author.Rules.{rules}
 use Rattle.records.proofs.operation_fits.Goals as goal
 
 pub returns-in-Update : goal.returns-in-Update

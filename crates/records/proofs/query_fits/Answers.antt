@@ -1,6 +1,5 @@
 -- `records::query_fits` meets its contract.
 -- Assumes nothing.
-use borrow.Author.Rules.{rules}
 use Rattle.records.proofs.query_fits.Goals as goal
 
 pub returns-in-Find : goal.returns-in-Find

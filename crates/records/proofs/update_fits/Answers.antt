@@ -5,7 +5,6 @@ use mathlib.Core.Bool.{◌&&◌}
 use lib.Dec.{ltb, leb}
 use Rattle.decibel.specs.Conversion.{loudest}
 use Rattle.records.proofs.Levels.{fits_loudness}
-use borrow.Author.Rules.{rules}
 use Rattle.records.proofs.update_fits.Goals as goal
 
 pub returns : goal.returns

@@ -10,11 +10,11 @@ use Rattle.lines.proofs.chunks.serve.Goals as goal
 
 pub serve_bytes-requires : goal.serve_bytes-requires
 serve_bytes-requires c =
-    (search rules, omega (arith, ap length c.first.ensures, length-take-le c.args.n c.args.chunk.now (omega (arith, c.well-formed)), c.well-formed))
+    (search rules, omega (arith, ap length c.first.ensures, length-take-le c.args.n c.args.chunk.now (omega (arith, c.well_formed)), c.well_formed))
 
 pub returns-then-n-le16384 : goal.returns-then-n-le16384
 returns-then-n-le16384 c = c.serve_bytes.ensures ∙ ap (serve_of _ _ _) c.first.ensures
 
 pub returns : goal.returns
 returns c =
-    c.serve_bytes-2.ensures ∙ ap (serve_of _ _ _) (sym (take_all c.args.n c.args.chunk.now (omega (arith, c.if-n-le16384.false, c.well-formed))))
+    c.serve_bytes-2.ensures ∙ ap (serve_of _ _ _) (sym (take_all c.args.n c.args.chunk.now (omega (arith, c.if-n-le16384.false, c.well_formed))))

@@ -12,7 +12,7 @@ pub returns-then-held-gt-LONGEST_LINE : goal.returns-then-held-gt-LONGEST_LINE
 returns-then-held-gt-LONGEST_LINE c = sym (ap line_at (part_over _ c.if-held-gt-LONGEST_LINE.true))
 
 pub slice_bounds-parse-end : goal.slice_bounds-parse-end
-slice_bounds-parse-end c = sym (length-take-le _ _ (omega (arith, c.well-formed)))
+slice_bounds-parse-end c = sym (length-take-le _ _ (omega (arith, c.well_formed)))
 
 pub returns : goal.returns
 returns c = c.parse.ensures ∙ sym (ap line_at (part_upto _ c.if-held-gt-LONGEST_LINE.false))

@@ -15,22 +15,22 @@ returns-then-held-gt-LONGEST_LINE c = sym (ap begun_of (keeps_over _ c.args.s.no
 
 pub returns-then-held-s : goal.returns-then-held-s
 returns-then-held-s c =
-    let l : length c.args.t1 ≡ 40 = omega (arith, c.well-formed) in
+    let l : length c.args.old ≡ 40 = omega (arith, c.well_formed) in
     sym (ap begun_of (keeps_none _ c.if-held-gt-LONGEST_LINE.false l c.args.s.now (omega arith)))
 
 pub slice_bounds-put-end : goal.slice_bounds-put-end
-slice_bounds-put-end c = sym (length-take-le _ _ (omega (arith, c.well-formed)))
+slice_bounds-put-end c = sym (length-take-le _ _ (omega (arith, c.well_formed)))
 
 pub put-a-requires : goal.put-a-requires
 put-a-requires c =
-    omega (arith, length-take-le c.args.held c.args.t1 (omega (arith, c.well-formed)))
+    omega (arith, length-take-le c.args.held c.args.old (omega (arith, c.well_formed)))
 
 pub put-b-requires : goal.put-b-requires
 put-b-requires c =
-    omega (arith, c.put-a.ensures.ends, c.put-a, length-take-le c.args.held c.args.t1 (omega (arith, c.well-formed)))
+    omega (arith, c.put-a.ensures.ends, c.put-a, length-take-le c.args.held c.args.old (omega (arith, c.well_formed)))
 
 pub returns : goal.returns
 returns c =
-    let l : length c.args.t1 ≡ 40 = omega (arith, c.well-formed) in
-    let t = length-take-le c.args.held c.args.t1 (omega arith) in
+    let l : length c.args.old ≡ 40 = omega (arith, c.well_formed) in
+    let t = length-take-le c.args.held c.args.old (omega arith) in
     begun_put _ _ _ (put_both _ _ _ _ _ _ _ _ (omega (arith, t)) c.put-a.ensures c.put-b.ensures) ∙ sym (ap begun_of (keeps _ c.if-held-gt-LONGEST_LINE.false l c.args.s.now (omega arith)))

@@ -11,4 +11,4 @@ returns-in-Refused c = rw c.in-Refused.is c.put_refused.ensures
 
 pub returns-in-Ok : goal.returns-in-Ok
 unfolding accepted_text
-returns-in-Ok c = (rw c.in-Ok.is c.put.ensures, omega (arith, c.put.ensures.ends))
+returns-in-Ok c = record { put = rw c.in-Ok.is c.put.ensures; upper_bound = omega (arith, c.put.ensures.ends) }

@@ -11,7 +11,7 @@ returns-in-Refused c = rw c.in-Refused.is c.put_refused.ensures
 
 pub returns-in-On : goal.returns-in-On
 unfolding course_text
-returns-in-On c = (rw c.in-On.is c.put.ensures, omega (arith, c.put.ensures.ends))
+returns-in-On c = record { put = rw c.in-On.is c.put.ensures; upper_bound = omega (arith, c.put.ensures.ends) }
 
 pub returns-in-Done : goal.returns-in-Done
 unfolding course_text

@@ -7,4 +7,4 @@ use Rattle.lines.proofs.text.put_refused.Goals as goal
 
 pub returns : goal.returns
 returns c =
-    (put_as _ _ _ _ _ _ (refused_text_lem c.args.number) (put_both _ _ _ _ _ _ _ _ (omega (arith, c.requires, c.spell-a.ensures.0.ends, c.spell-a.ensures.1)) c.spell-a.ensures.0 c.put.ensures), omega (arith, c.spell-a.ensures.1, c.put.ensures.ends))
+    record { put = put_as _ _ _ _ _ _ (refused_text_lem c.args.number) (put_both _ _ _ _ _ _ _ _ (omega (arith, c.requires, c.spell-a.ensures.put.ends, c.spell-a.ensures.upper_bound)) c.spell-a.ensures.put c.put.ensures); upper_bound = omega (arith, c.spell-a.ensures.upper_bound, c.put.ensures.ends) }

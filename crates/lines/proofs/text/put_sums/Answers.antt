@@ -7,7 +7,7 @@ use Rattle.lines.proofs.text.put_sums.Goals as goal
 
 pub returns : goal.returns
 returns c =
-    let p = put_both _ _ _ _ _ _ _ _ (omega (arith, c.requires, c.spell-a.ensures.0.ends, c.spell-a.ensures.1)) c.spell-a.ensures.0 c.spell-b.ensures.0 in (
-      put_as _ _ _ _ _ _ (sums_text c.args.count c.args.energy) (put_both _ _ _ _ _ _ _ _ (omega (arith, c.requires, p.ends, c.spell-b.ensures.1, c.spell-a.ensures.1)) p c.put.ensures),
-      omega (arith, c.spell-a.ensures.1, c.spell-b.ensures.1, c.put.ensures.ends),
-    )
+    let p = put_both _ _ _ _ _ _ _ _ (omega (arith, c.requires, c.spell-a.ensures.put.ends, c.spell-a.ensures.upper_bound)) c.spell-a.ensures.put c.spell-b.ensures.put in record {
+      put = put_as _ _ _ _ _ _ (sums_text c.args.count c.args.energy) (put_both _ _ _ _ _ _ _ _ (omega (arith, c.requires, p.ends, c.spell-b.ensures.upper_bound, c.spell-a.ensures.upper_bound)) p c.put.ensures);
+      upper_bound = omega (arith, c.spell-a.ensures.upper_bound, c.spell-b.ensures.upper_bound, c.put.ensures.ends);
+    }

@@ -3,7 +3,6 @@
 use mathlib.Core.Path.{sym}
 use native.Mathlib.Nat.{div-eq_of_lt, lt_of_lt_of_le}
 use lib.Pow.{pow_mono}
-use borrow.Author.Rules.{rules}
 use Rattle.tables.proofs.size.ancestor.Goals as goal
 
 pub returns-then-levels-gt63 : goal.returns-then-levels-gt63

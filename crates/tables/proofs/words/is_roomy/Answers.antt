@@ -4,7 +4,6 @@ use Rattle.trie.specs.Tables.{roomy}
 use Rattle.tables.proofs.Halves.{doubled, doubled_less}
 use native.Mathlib.Omega.{arith}
 use Rattle.trie.proofs.TableLaws.{room_most}
-use borrow.Author.Rules.{rules}
 use Rattle.tables.proofs.words.is_roomy.Goals as goal
 
 pub overflow_add-result : goal.overflow_add-result

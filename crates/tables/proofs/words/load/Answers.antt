@@ -2,7 +2,6 @@
 -- Assumes nothing.
 use borrow.Author.Tests.{le-leb, lt-leb}
 use Rattle.trie.specs.Tables.{version_at}
-use borrow.Author.Rules.{rules}
 use Rattle.tables.proofs.words.load.Goals as goal
 
 pub returns-then-number-lt1 : goal.returns-then-number-lt1

@@ -1,14 +1,7 @@
 -- `tables::words::store` meets its contract.
 -- Assumes nothing.
-use mathlib.Core.Path.{◌∙◌}
-use native.Mathlib.Omega.{arith}
 use borrow.Author.Tests.{le-leb, lt-leb}
-use lib.ListN.{length-set}
 use Rattle.trie.specs.Tables.{version_put}
-use Rattle.tables.proofs.Halves.{in_version}
-use Prim.Native.Nat.{◌+◌, ◌*◌, ◌-◌}
-use lib.ListN.{set}
-use borrow.Author.Rules.{rules}
 use Rattle.tables.proofs.words.store.Goals as goal
 
 pub returns-then-number-lt1 : goal.returns-then-number-lt1

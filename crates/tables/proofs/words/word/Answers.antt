@@ -2,7 +2,6 @@
 -- Assumes nothing.
 use mathlib.Core.Path.{sym}
 use lib.ListN.{get_or-eq_default}
-use borrow.Author.Rules.{rules}
 use Rattle.tables.proofs.words.word.Goals as goal
 
 pub returns-else-at-table : goal.returns-else-at-table

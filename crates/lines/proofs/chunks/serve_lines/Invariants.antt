@@ -1,0 +1,13 @@
+-- What the loop of `serve_lines` keeps: the lines before the place are served, and what is lent is as long as it was.
+-- Each turn goes on behind a line, so the loop ends.
+use Rattle.std.proofs.Common.{◌≡◌, ◌-◌, length}
+use Rattle.lines.specs.Watch.{watch}
+use Rattle.lines.specs.Places.{Runs}
+use Rattle.lines.proofs.chunks.serve_lines.Given as goal
+
+abbrev pub invariant-loop-r : goal.invariant-loop-r
+invariant-loop-r l = Runs l.fn.begun l.chunk (watch l.fn.history l.initial.nodes l.initial.versions l.initial.board) l.initial.out l.p (watch l.p.history l.nodes l.versions l.board) l.out
+    × (length l.nodes ≡ length l.initial.nodes) × (length l.versions ≡ length l.initial.versions) × (length l.out ≡ length l.initial.out)
+
+abbrev pub decreases-loop-r : goal.decreases-loop-r
+decreases-loop-r l = length l.chunk - l.p.from
