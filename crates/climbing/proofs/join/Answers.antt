@@ -1,7 +1,6 @@
 -- `climbing::join` meets its contract: the sums are judged before they are formed.
 -- Assumes nothing.
 use Rattle.climbing.proofs.Refreshes.{join_many, join_loud, join_places, summed, sum_named}
-use borrow.Author.Rules.{rules}
 use Rattle.std.proofs.Common.{ap}
 use Rattle.std.specs.Prelude.{not}
 use Rattle.climbing.proofs.join.Goals as goal

@@ -1,6 +1,5 @@
 -- `climbing::miss` meets its contract.
 -- Assumes nothing.
-use borrow.Author.Rules.{rules}
 use Rattle.climbing.proofs.miss.Goals as goal
 
 pub returns-then-c : goal.returns-then-c

@@ -1,7 +1,6 @@
 -- `climbing::place_sum` meets its contract.
 -- Assumes nothing.
 use borrow.Author.Tests.{eq-eqb, ne_eqb, lt-ltb, le-ltb}
-use borrow.Author.Rules.{rules}
 use Rattle.climbing.proofs.place_sum.Goals as goal
 
 pub returns-then-made-b : goal.returns-then-made-b

@@ -1,7 +1,6 @@
 -- `climbing::read_node` meets its contract.
 -- Assumes nothing.
 use mathlib.Core.Path.{sym, ◌∙◌}
-use borrow.Author.Rules.{rules}
 use Rattle.climbing.proofs.read_node.Goals as goal
 
 pub returns-then-is_sound_in : goal.returns-then-is_sound_in

@@ -1,8 +1,6 @@
 -- `climbing::read_right` meets its contract.
 -- Assumes nothing.
 use mathlib.Core.Path.{sym, ◌∙◌}
-use borrow.Author.Tests.{not-true, not-false}
-use borrow.Author.Rules.{rules}
 use Rattle.climbing.proofs.read_right.Goals as goal
 
 pub returns-then-not-is_sound_in : goal.returns-then-not-is_sound_in

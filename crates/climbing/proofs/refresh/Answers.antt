@@ -1,7 +1,6 @@
 -- `climbing::refresh` meets its contract.
 -- Assumes nothing.
 use Rattle.climbing.proofs.Refreshes.{climb_node, refresh_damaged, refresh_by}
-use borrow.Author.Rules.{rules}
 use Rattle.std.proofs.Common.{ap}
 use Rattle.std.specs.Prelude.{not}
 use Rattle.climbing.proofs.refresh.Goals as goal

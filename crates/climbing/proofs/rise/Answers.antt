@@ -1,7 +1,6 @@
 -- `climbing::rise` meets its contract.
 -- Assumes nothing.
 use borrow.Author.Tests.{eq-eqb, ne_eqb}
-use borrow.Author.Rules.{rules}
 use Rattle.climbing.proofs.rise.Goals as goal
 
 pub returns-then-c : goal.returns-then-c

@@ -1,7 +1,5 @@
 -- `climbing::try_swap` meets its contract.
 -- Assumes nothing.
-use borrow.Author.Tests.{not-true, not-false}
-use borrow.Author.Rules.{rules}
 use Rattle.climbing.proofs.try_swap.Goals as goal
 
 pub returns-then-not-is_sound_in : goal.returns-then-not-is_sound_in

@@ -1,7 +1,6 @@
 -- `judging::is_roomy` meets its contract.
 -- Assumes nothing.
 use Rattle.judging.specs.Judging.{roomy_by}
-use borrow.Author.Rules.{rules}
 use Rattle.judging.proofs.is_roomy.Goals as goal
 
 pub returns : goal.returns

@@ -1,7 +1,6 @@
 -- `judging::judge` meets its contract.
 -- Assumes nothing.
 use Rattle.judging.specs.Judging.{judge_of}
-use borrow.Author.Rules.{rules}
 use Rattle.judging.proofs.judge.Goals as goal
 
 pub returns-then-manned-i : goal.returns-then-manned-i

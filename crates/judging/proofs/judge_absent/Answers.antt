@@ -1,10 +1,8 @@
 -- `judging::judge_absent` meets its contract.
 -- Assumes nothing.
 use mathlib.Core.Path.{sym, ◌∙◌}
-use borrow.Author.Tests.{not-true, not-false}
 use Rattle.trie.proofs.SizeLaws.{sized}
 use Rattle.judging.specs.Judging.{absent_of}
-use borrow.Author.Rules.{rules}
 use Rattle.judging.proofs.judge_absent.Goals as goal
 
 pub returns-then-not-is_allowed : goal.returns-then-not-is_allowed

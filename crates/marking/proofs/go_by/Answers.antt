@@ -1,6 +1,5 @@
 -- `marking::go_by` meets its contract.
 -- Assumes nothing.
-use borrow.Author.Rules.{rules}
 use Rattle.marking.proofs.go_by.Goals as goal
 
 pub returns-then-found : goal.returns-then-found

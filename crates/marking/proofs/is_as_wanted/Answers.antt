@@ -1,6 +1,5 @@
 -- `marking::is_as_wanted` meets its contract.
 -- Assumes nothing.
-use borrow.Author.Rules.{rules}
 use Rattle.marking.proofs.is_as_wanted.Goals as goal
 
 pub returns-in-Insert : goal.returns-in-Insert

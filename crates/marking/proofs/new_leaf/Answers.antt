@@ -1,7 +1,6 @@
 -- `marking::new_leaf` meets its contract: the level fits, so that the conversion does not refuse it.
 -- Assumes nothing.
 use Rattle.marking.proofs.Converting.{new_marked, never_loud, new_unmarked}
-use borrow.Author.Rules.{rules}
 use Rattle.marking.proofs.new_leaf.Goals as goal
 
 pub returns-in-Is : goal.returns-in-Is

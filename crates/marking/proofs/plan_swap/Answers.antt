@@ -1,7 +1,6 @@
 -- `marking::plan_swap` meets its contract.
 -- Assumes nothing.
 use borrow.Author.Tests.{lt-ltb, le-ltb}
-use borrow.Author.Rules.{rules}
 use Rattle.marking.proofs.plan_swap.Goals as goal
 
 pub returns-then-used-b : goal.returns-then-used-b

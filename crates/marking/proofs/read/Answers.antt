@@ -2,10 +2,9 @@
 -- Assumes nothing.
 use mathlib.Core.Path.{sym, ◌∙◌}
 use native.Mathlib.Omega.{arith}
-use borrow.Author.Tests.{not-true, not-false, le-leb, lt-leb}
+use borrow.Author.Tests.{le-leb, lt-leb}
 use Rattle.trie.specs.Leaf.{read_of}
 use Rattle.records.proofs.Tests.{fits_cell}
-use borrow.Author.Rules.{rules}
 use Rattle.marking.proofs.read.Goals as goal
 
 pub returns-then-n-gt-MOST_CELLS : goal.returns-then-n-gt-MOST_CELLS

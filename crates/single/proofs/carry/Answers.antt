@@ -1,7 +1,6 @@
 -- `single::carry` meets its contract.
 -- Assumes nothing.
 use Rattle.single.proofs.Carries.{carry_damaged, carry_keeps, carry_puts}
-use borrow.Author.Rules.{rules}
 use Rattle.single.proofs.carry.Goals as goal
 
 pub returns-in-Damaged : goal.returns-in-Damaged

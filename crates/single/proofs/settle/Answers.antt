@@ -1,6 +1,5 @@
 -- `single::settle` meets its contract.
 -- Assumes nothing.
-use borrow.Author.Rules.{rules}
 use Rattle.single.proofs.settle.Goals as goal
 
 pub returns-in-On : goal.returns-in-On

@@ -1,7 +1,6 @@
 -- `single::step_record` meets its contract.
 -- Assumes nothing.
 use Rattle.single.proofs.Carries.{bounds_fit, step_1, step_3, step_6, step_turns}
-use borrow.Author.Rules.{rules}
 use Rattle.std.proofs.Common.{ap}
 use Rattle.std.specs.Prelude.{not}
 use Rattle.single.proofs.step_record.Goals as goal

@@ -2,7 +2,6 @@
 -- Assumes nothing.
 use mathlib.Core.Path.{refl}
 use Rattle.single.proofs.Carries.{turn_damaged, turn_idle, turn_by, turn_within, turn_below}
-use borrow.Author.Rules.{rules}
 use Rattle.std.proofs.Common.{ap}
 use Rattle.std.specs.Prelude.{not}
 use Rattle.single.proofs.turn.Goals as goal

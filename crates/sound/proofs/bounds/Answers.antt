@@ -4,7 +4,6 @@ use native.Mathlib.Omega.{arith}
 use lib.Count.{trailing_le}
 use Rattle.trie.specs.Size.{height_of}
 use Rattle.trie.specs.Sound.{bounds_of}
-use borrow.Author.Rules.{rules}
 use Rattle.sound.proofs.bounds.Goals as goal
 
 pub overflow_add-result : goal.overflow_add-result

@@ -1,6 +1,5 @@
 -- `sound::is_leaf` meets its contract.
 -- Assumes nothing.
-use borrow.Author.Rules.{rules}
 use Rattle.sound.proofs.Leaves.{leaf_judged, leaf_crowded}
 use Rattle.sound.proofs.is_leaf.Goals as goal
 

@@ -1,6 +1,5 @@
 -- `sound::is_placed` meets its contract.
 -- Assumes nothing.
-use borrow.Author.Rules.{rules}
 use Rattle.trie.specs.Sound.{leaf_sound, inner_sound}
 use Rattle.sound.proofs.Leaves.{chosen, other}
 use Rattle.sound.proofs.is_placed.Goals as goal

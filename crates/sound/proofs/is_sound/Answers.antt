@@ -1,6 +1,5 @@
 -- `sound::is_sound` meets its contract.
 -- Assumes nothing.
-use borrow.Author.Rules.{rules}
 use Rattle.trie.specs.Sound.{sound_at}
 use Rattle.sound.proofs.Leaves.{not_first, and_then}
 use Rattle.sound.proofs.is_sound.Goals as goal

@@ -1,7 +1,6 @@
 -- `sound::is_sound_in` meets its contract.
 -- Assumes nothing.
 use mathlib.Core.Path.{ap, ◌∙◌}
-use borrow.Author.Rules.{rules}
 use Rattle.trie.specs.declared.Version.{Version}
 use Rattle.trie.specs.Choice.{pick}
 use Rattle.trie.specs.Sound.{leaf_sound, inner_sound, sound_at, sound_in}

@@ -5,7 +5,6 @@ use mathlib.Core.Bool.{Bool, ◌&&◌}
 use lib.Dec.{leb}
 use Rattle.trie.specs.Sound.{used_sound}
 use Rattle.tables.proofs.Halves.{doubled_odd}
-use borrow.Author.Rules.{rules}
 use Rattle.sound.proofs.is_used_sound.Goals as goal
 
 pub returns : goal.returns

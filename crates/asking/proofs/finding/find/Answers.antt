@@ -5,7 +5,6 @@ use native.Mathlib.Omega.{arith}
 use borrow.Author.Tests.{lt-ltb, le-ltb}
 use Rattle.trie.specs.Asking.{find_of}
 use Rattle.asking.proofs.Looks.{look_depth}
-use borrow.Author.Rules.{rules}
 use Rattle.asking.proofs.finding.find.Goals as goal
 
 pub returns-then-b-k : goal.returns-then-b-k

@@ -1,6 +1,5 @@
 -- `asking::finding::find_seen` meets its contract.
 -- Assumes nothing.
-use borrow.Author.Rules.{rules}
 use Rattle.asking.proofs.finding.find_seen.Goals as goal
 
 pub returns-then-f : goal.returns-then-f

@@ -3,7 +3,6 @@
 use Rattle.asking.proofs.Looks.{look_unsound, look_sound}
 use borrow.Author.Tests.{le-ltb}
 use Rattle.trie.specs.Asking.{look_of}
-use borrow.Author.Rules.{rules}
 use Rattle.asking.proofs.looking.look.Goals as goal
 
 pub returns-then-b-depth : goal.returns-then-b-depth

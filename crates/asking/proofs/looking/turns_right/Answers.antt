@@ -1,6 +1,5 @@
 -- `asking::looking::turns_right` meets its contract.
 -- Assumes nothing.
-use borrow.Author.Rules.{rules}
 use Rattle.asking.proofs.looking.turns_right.Goals as goal
 
 pub returns : goal.returns

@@ -4,7 +4,6 @@ use native.Mathlib.Omega.{arith}
 use Rattle.asking.proofs.Looks.{look_depth}
 use Rattle.asking.proofs.Walks.{rank_damaged, rank_by}
 use mathlib.Core.Path.{refl}
-use borrow.Author.Rules.{rules}
 use Rattle.std.proofs.Common.{ap}
 use Rattle.std.specs.Prelude.{not}
 use Rattle.asking.proofs.ranking.rank.Goals as goal

@@ -1,6 +1,5 @@
 -- `asking::ranking::rank_next` meets its contract.
 -- Assumes nothing.
-use borrow.Author.Rules.{rules}
 use Rattle.asking.proofs.ranking.rank_next.Goals as goal
 
 pub returns-then-last : goal.returns-then-last

@@ -1,7 +1,6 @@
 -- `asking::ranking::rank_seen` meets its contract.
 -- Assumes nothing.
 use Rattle.asking.proofs.Walks.{rank_many, rank_loud, rank_goes}
-use borrow.Author.Rules.{rules}
 use Rattle.asking.proofs.ranking.rank_seen.Goals as goal
 
 pub returns-in_default : goal.returns-in_default

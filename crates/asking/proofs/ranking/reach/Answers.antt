@@ -1,8 +1,6 @@
 -- `asking::ranking::reach` meets its contract: no sum is formed that would pass the bound.
 -- Assumes nothing.
-use borrow.Author.Tests.{not-true, not-false}
 use Rattle.asking.proofs.Looks.{reach_past, reach_past_leaf, reach_of}
-use borrow.Author.Rules.{rules}
 use Rattle.asking.proofs.ranking.reach.Goals as goal
 
 pub returns-then-not-is_within : goal.returns-then-not-is_within

@@ -1,9 +1,7 @@
 -- `asking::root::ask` meets its contract.
 -- Assumes nothing.
 use mathlib.Core.Path.{sym, ◌∙◌}
-use borrow.Author.Tests.{not-true, not-false}
 use Rattle.trie.specs.Asking.{ask_of}
-use borrow.Author.Rules.{rules}
 use Rattle.asking.proofs.root.ask.Goals as goal
 
 pub returns-then-not-query_fits : goal.returns-then-not-query_fits

@@ -1,7 +1,6 @@
 -- `asking::root::first` meets its contract.
 -- Assumes nothing.
 use borrow.Author.Tests.{lt-ltb, le-ltb}
-use borrow.Author.Rules.{rules}
 use Rattle.asking.proofs.root.first.Goals as goal
 
 pub returns-in-Find : goal.returns-in-Find

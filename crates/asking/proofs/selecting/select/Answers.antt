@@ -4,7 +4,6 @@ use mathlib.Core.Path.{refl}
 use native.Mathlib.Omega.{arith}
 use Rattle.asking.proofs.Looks.{look_depth}
 use Rattle.asking.proofs.Walks.{select_high, select_damaged, select_passed, select_near, select_by}
-use borrow.Author.Rules.{rules}
 use Rattle.std.proofs.Common.{ap}
 use Rattle.std.specs.Prelude.{not}
 use Rattle.asking.proofs.selecting.select.Goals as goal

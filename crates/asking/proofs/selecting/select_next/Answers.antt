@@ -1,6 +1,5 @@
 -- `asking::selecting::select_next` meets its contract.
 -- Assumes nothing.
-use borrow.Author.Rules.{rules}
 use Rattle.asking.proofs.selecting.select_next.Goals as goal
 
 pub returns-then-last : goal.returns-then-last

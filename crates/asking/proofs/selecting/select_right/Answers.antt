@@ -1,9 +1,7 @@
 -- `asking::selecting::select_right` meets its contract.
 -- Assumes nothing.
 use mathlib.Core.Path.{sym, ◌∙◌}
-use borrow.Author.Tests.{not-true, not-false}
 use Rattle.asking.proofs.Looks.{sum_formed}
-use borrow.Author.Rules.{rules}
 use Rattle.asking.proofs.selecting.select_right.Goals as goal
 
 pub returns-then-not-is_within : goal.returns-then-not-is_within

@@ -1,7 +1,6 @@
 -- `asking::selecting::select_seen` meets its contract.
 -- Assumes nothing.
 use borrow.Author.Tests.{le-leb, lt-leb}
-use borrow.Author.Rules.{rules}
 use Rattle.asking.proofs.selecting.select_seen.Goals as goal
 
 pub returns-then-j-passed : goal.returns-then-j-passed

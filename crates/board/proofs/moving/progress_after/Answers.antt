@@ -1,6 +1,5 @@
 -- `board::moving::progress_after` meets its contract.
 -- Assumes nothing.
-use borrow.Author.Rules.{rules}
 use Rattle.board.proofs.moving.progress_after.Goals as goal
 
 pub returns-in-Refused : goal.returns-in-Refused

@@ -1,11 +1,10 @@
 -- Open is put together again from the tables as they are opened and the workers that rest.
 -- Assumes nothing.
-use Rattle.std.proofs.Common.{◌≡◌, ◌≤◌, ◌∙◌, ℕ, sym, ap, subst, length}
-use Rattle.trie.specs.declared.Worker.{Worker}
+use Rattle.std.proofs.Common.{◌≤◌, ◌∙◌, ℕ, sym, ap, subst, length}
 use Rattle.trie.specs.Values.{accepted_of}
 use Rattle.trie.specs.Opening.{Opened, open_board}
 use Rattle.trie.specs.Calls.{state, after}
-use Rattle.board.specs.Opening.{open_manned_of, resting_of}
+use Rattle.board.specs.Opening.{resting_of}
 use Rattle.board.proofs.OpeningLaws.{opened_at, open_put, open_rests}
 use Rattle.board.proofs.opening.open.Goals as goal
 

@@ -2,7 +2,6 @@
 -- Assumes nothing.
 use mathlib.Core.Path.{sym, ◌∙◌}
 use Rattle.board.specs.Opening.{open_manned_of}
-use borrow.Author.Rules.{rules}
 use Rattle.board.proofs.opening.open_manned.Goals as goal
 
 pub returns-then-is_manned : goal.returns-then-is_manned

@@ -1,8 +1,6 @@
 -- The loop of `rest` puts one worker more to rest at each turn.
 -- Assumes nothing.
-use Rattle.std.proofs.Common.{◌≡◌, ◌≤◌, ◌∙◌, ℕ, suc, ◌+◌, refl, sym, ap, arith, add-one, set, length, length-set}
-use Rattle.trie.specs.declared.Worker.{Worker}
-use Rattle.trie.specs.Record.{idle}
+use Rattle.std.proofs.Common.{◌∙◌, ℕ, refl, sym, ap, arith, add-one, set, length-set}
 use Rattle.trie.specs.Opening.{open_board}
 use Rattle.board.proofs.OpeningLaws.{rests_none, rests_next}
 use Rattle.board.proofs.opening.rest.Goals as goal

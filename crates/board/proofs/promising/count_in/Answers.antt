@@ -1,7 +1,6 @@
 -- `board::promising::count_in` meets its contract.
 -- Assumes nothing.
 use native.Mathlib.Omega.{arith}
-use borrow.Author.Rules.{rules}
 use Rattle.board.proofs.PromisingLaws.{one_at_most}
 use Rattle.board.proofs.promising.count_in.Goals as goal
 

@@ -2,7 +2,6 @@
 -- Assumes nothing.
 use native.Mathlib.Omega.{arith}
 use borrow.Author.Tests.{le-leb}
-use borrow.Author.Rules.{rules}
 use Rattle.board.proofs.promising.is_within.Goals as goal
 
 pub returns-in-Idle : goal.returns-in-Idle

@@ -1,6 +1,5 @@
 -- `board::promising::made_low` meets its contract.
 -- Assumes nothing.
-use borrow.Author.Rules.{rules}
 use Rattle.board.proofs.promising.made_low.Goals as goal
 
 pub returns-in-Idle : goal.returns-in-Idle

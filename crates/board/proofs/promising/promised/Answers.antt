@@ -2,7 +2,7 @@
 -- Assumes nothing.
 use Rattle.std.proofs.Common.{◌≡◌, ◌≤◌, ◌∙◌, ◌<◌, ◌*◌, ℕ, true, sym, ap, subst, arith}
 use Rattle.board.specs.declared.promising.Tally.{Tally}
-use Rattle.board.specs.Promising.{most_share, tally_of, still_due}
+use Rattle.board.specs.Promising.{tally_of, still_due}
 use Rattle.board.proofs.PromisingLaws.{tally_updates, tally_made, tally_within, tally_due, promised_by_tally}
 use Rattle.board.proofs.promising.promised.Goals as goal
 

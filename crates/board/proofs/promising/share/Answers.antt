@@ -3,7 +3,6 @@
 use native.Mathlib.Omega.{arith}
 use lib.Count.{trailing_le}
 use Rattle.trie.specs.Size.{height_of}
-use borrow.Author.Rules.{rules}
 use Rattle.board.proofs.promising.share.Goals as goal
 
 pub overflow_add-result : goal.overflow_add-result

@@ -1,6 +1,5 @@
 -- `board::promising::still_due` meets its contract.
 -- Assumes nothing.
-use borrow.Author.Rules.{rules}
 use Rattle.board.proofs.promising.still_due.Goals as goal
 
 pub overflow_sub-result : goal.overflow_sub-result

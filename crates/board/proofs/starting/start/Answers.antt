@@ -1,16 +1,15 @@
 -- A start goes by the judging of its call: it is refused with the number that is told, or the worker's record is started and stored.
 -- Assumes nothing.
-use Rattle.std.proofs.Common.{◌≡◌, ◌<◌, ◌+◌, ◌∙◌, ℕ, sym, ap, arith, set, length, get_or}
+use Rattle.std.proofs.Common.{◌≡◌, ◌+◌, ◌∙◌, ℕ, sym, ap, arith, set, get_or}
 use Rattle.decibel.specs.Told.{refused}
 use Rattle.trie.specs.declared.Accepted.{Accepted}
-use Rattle.trie.specs.declared.Worker.{Worker}
 use Rattle.trie.specs.declared.Promised.{Promised}
 use Rattle.trie.specs.Size.{height_of}
 use Rattle.trie.specs.Record.{idle, promised_of}
 use Rattle.trie.specs.Values.{accepted_of}
 use Rattle.trie.specs.Starting.{start_record_of}
 use Rattle.trie.specs.Calls.{state, after, start_at}
-use Rattle.judging.proofs.JudgingLaws.{judged_of, seated, start_seated, start_refused}
+use Rattle.judging.proofs.JudgingLaws.{seated, start_seated, start_refused}
 use Rattle.board.proofs.PromisingLaws.{share_small}
 use Rattle.board.proofs.Refusals.{no_refusal, some_refusal}
 use Rattle.board.proofs.starting.start.Goals as goal

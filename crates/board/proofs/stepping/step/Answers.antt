@@ -1,11 +1,11 @@
 -- A step goes by the judging of its call: it is refused with the number that is told, or the worker has its turn.
 -- Assumes nothing.
-use Rattle.std.proofs.Common.{◌≡◌, ◌<◌, ◌∙◌, ℕ, true, false, sym, ap, arith, eqb, eq-eqb, length, get_or}
+use Rattle.std.proofs.Common.{◌∙◌, ℕ, sym, ap, arith}
 use Rattle.decibel.specs.Told.{refused}
 use Rattle.trie.specs.declared.Progress.{Progress}
 use Rattle.trie.specs.Values.{progress_of}
 use Rattle.trie.specs.Calls.{state, after}
-use Rattle.judging.proofs.JudgingLaws.{judged_of, seated, step_seated, step_refused}
+use Rattle.judging.proofs.JudgingLaws.{seated, step_seated, step_refused}
 use Rattle.board.proofs.Refusals.{no_refusal, some_refusal}
 use Rattle.board.proofs.stepping.step.Goals as goal
 

@@ -2,7 +2,6 @@
 -- Assumes nothing.
 use mathlib.Core.Path.{◌∙◌}
 use Rattle.lines.proofs.Outcomes.{finish_none, finish_line}
-use borrow.Author.Rules.{rules}
 use Rattle.lines.proofs.chunks.finish.Goals as goal
 
 pub returns-then-begun-eq0 : goal.returns-then-begun-eq0

@@ -3,9 +3,8 @@
 use Rattle.trie.proofs.SizeLaws.{sized}
 use mathlib.Core.Path.{sym, ◌∙◌}
 use native.Mathlib.Omega.{arith}
-use borrow.Author.Tests.{not-true, not-false, lt-leb, le-leb}
+use borrow.Author.Tests.{lt-leb, le-leb}
 use Rattle.lines.specs.Watch.{opened}
-use borrow.Author.Rules.{rules}
 use Rattle.lines.proofs.histories.is_open.Goals as goal
 
 pub returns-then-not-is_allowed : goal.returns-then-not-is_allowed

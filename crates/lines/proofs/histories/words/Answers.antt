@@ -1,7 +1,6 @@
 -- `lines::histories::words` meets its contract.
 -- Assumes nothing.
 use borrow.Author.Tests.{lt-leb, le-leb}
-use borrow.Author.Rules.{rules}
 use Rattle.lines.proofs.histories.words.Goals as goal
 
 pub returns-then-v-le-LISTED_VERSIONS : goal.returns-then-v-le-LISTED_VERSIONS

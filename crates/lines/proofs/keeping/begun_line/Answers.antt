@@ -5,7 +5,6 @@ use native.Mathlib.Omega.{arith}
 use lib.Seq.{length-take-le}
 use Rattle.lines.specs.Chunks.{line_at}
 use Rattle.lines.proofs.Feeds.{part_over, part_upto}
-use borrow.Author.Rules.{rules}
 use Rattle.lines.proofs.keeping.begun_line.Goals as goal
 
 pub returns-then-held-gt-LONGEST_LINE : goal.returns-then-held-gt-LONGEST_LINE

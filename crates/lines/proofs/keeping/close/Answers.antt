@@ -3,7 +3,6 @@
 use mathlib.Core.Path.{ap, ◌∙◌}
 use Rattle.lines.specs.Chunks.{begun_of}
 use Rattle.lines.proofs.RunLaws.{keeps_first, keeps_later}
-use borrow.Author.Rules.{rules}
 use Rattle.lines.proofs.keeping.close.Goals as goal
 
 pub returns-then-from-eq0 : goal.returns-then-from-eq0

@@ -7,7 +7,6 @@ use lib.Seq.{length-take-le}
 use Rattle.lines.specs.Chunks.{begun_of}
 use Rattle.grammar.proofs.Texts.{put_both}
 use Rattle.lines.proofs.Feeds.{keeps, keeps_none, keeps_over, begun_put}
-use borrow.Author.Rules.{rules}
 use Rattle.lines.proofs.keeping.keep.Goals as goal
 
 pub returns-then-held-gt-LONGEST_LINE : goal.returns-then-held-gt-LONGEST_LINE

@@ -4,7 +4,6 @@ use mathlib.Core.Path.{refl, sym, ap, ◌∙◌}
 use lib.Seq.{length-take-le}
 use Rattle.lines.specs.Chunks.{line_at}
 use Rattle.lines.proofs.Feeds.{kept_part}
-use borrow.Author.Rules.{rules}
 use Rattle.lines.proofs.places.first_place.Goals as goal
 
 pub slice_bounds-keep-end : goal.slice_bounds-keep-end

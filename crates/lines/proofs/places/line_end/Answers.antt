@@ -1,12 +1,6 @@
 -- `lines::places::line_end` meets its contract. No byte passed is a newline.
 -- Assumes nothing.
-use mathlib.Core.Path.{◌≡◌}
-use mathlib.Core.Bool.{true}
-use Prim.Native.Nat.{◌≤◌, ◌-◌}
 use native.Mathlib.Omega.{arith}
-use borrow.Author.Rules.{rules}
-use lib.ListN.{length}
-use Rattle.lines.specs.Feeding.{plain, between}
 use Rattle.lines.proofs.Feeds.{plain_none, plain_next}
 use Rattle.lines.proofs.places.line_end.Goals as goal
 

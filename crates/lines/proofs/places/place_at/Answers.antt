@@ -1,7 +1,6 @@
 -- `lines::places::place_at` meets its contract.
 -- Assumes nothing.
 use Rattle.lines.proofs.RunLaws.{placed_short}
-use borrow.Author.Rules.{rules}
 use Rattle.lines.proofs.places.place_at.Goals as goal
 
 pub returns-in-Step : goal.returns-in-Step

@@ -3,7 +3,6 @@
 use mathlib.Core.Path.{ap, ◌∙◌}
 use Rattle.grammar.specs.declared.Line.{Line}
 use Rattle.lines.proofs.RunLaws.{run_of_lem, run_open}
-use borrow.Author.Rules.{rules}
 use Rattle.lines.proofs.runs.first_run.Goals as goal
 
 pub returns-in_default : goal.returns-in_default

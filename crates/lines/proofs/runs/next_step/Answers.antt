@@ -1,7 +1,6 @@
 -- `lines::runs::next_step` meets its contract.
 -- Assumes nothing.
 use Rattle.lines.proofs.RunLaws.{follows_short, follows_none}
-use borrow.Author.Rules.{rules}
 use Rattle.lines.proofs.runs.next_step.Goals as goal
 
 pub returns-in-Step : goal.returns-in-Step

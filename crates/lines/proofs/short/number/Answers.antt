@@ -1,6 +1,5 @@
 -- `lines::short::number` meets its contract.
 -- Assumes nothing.
-use borrow.Author.Rules.{rules}
 use Rattle.lines.proofs.short.number.Goals as goal
 
 pub returns-then-two : goal.returns-then-two

@@ -1,6 +1,5 @@
 -- `lines::short::short_end` meets its contract.
 -- Assumes nothing.
-use borrow.Author.Rules.{rules}
 use Rattle.lines.proofs.short.short_end.Goals as goal
 
 pub returns-then-two : goal.returns-then-two

@@ -6,9 +6,7 @@ use Prim.Native.Nat.{◌+◌}
 use native.Mathlib.Omega.{arith}
 use lib.Dec.{eqb}
 use lib.ListN.{get_or}
-use borrow.Author.Tests.{not-false}
 use Rattle.lines.proofs.Shorts.{digit_most, end_most, short_found}
-use borrow.Author.Rules.{rules}
 use Rattle.lines.proofs.short.short_step.Goals as goal
 
 pub bounds-chunk-e : goal.bounds-chunk-e

@@ -1,11 +1,8 @@
 -- What the loop of `text/put` keeps, and how it ends.
 use mathlib.Core.Path.{◌≡◌}
 use Prim.Native.Nat.{◌≤◌, ◌-◌}
-use native.Mathlib.Numerals.{add-one}
-use native.Mathlib.Omega.{arith}
-use lib.ListN.{length, length-set}
-use lib.Seq.{paste, paste-zero, paste-suc}
-use borrow.Author.Rules.{rules}
+use lib.ListN.{length}
+use lib.Seq.{paste}
 use Rattle.lines.proofs.text.put.Given as goal
 
 abbrev pub invariant-loop-i : goal.invariant-loop-i

@@ -2,7 +2,6 @@
 -- Assumes nothing.
 use native.Mathlib.Omega.{arith}
 use Rattle.grammar.specs.Text.{done_text, value_text}
-use borrow.Author.Rules.{rules}
 use Rattle.lines.proofs.text.put_answer.Goals as goal
 
 pub returns-in-Yes : goal.returns-in-Yes

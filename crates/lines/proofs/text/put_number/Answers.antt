@@ -2,7 +2,6 @@
 -- Assumes nothing.
 use native.Mathlib.Omega.{arith}
 use Rattle.grammar.proofs.Texts.{put_both, put_as, number_text}
-use borrow.Author.Rules.{rules}
 use Rattle.lines.proofs.text.put_number.Goals as goal
 
 pub returns : goal.returns

@@ -2,7 +2,6 @@
 -- Assumes nothing.
 use native.Mathlib.Omega.{arith}
 use Rattle.grammar.specs.Text.{course_text}
-use borrow.Author.Rules.{rules}
 use Rattle.lines.proofs.text.put_progress.Goals as goal
 
 pub returns-in-Refused : goal.returns-in-Refused

@@ -2,7 +2,6 @@
 -- Assumes nothing.
 use native.Mathlib.Omega.{arith}
 use Rattle.grammar.proofs.Texts.{put_both, put_as, refused_text_lem}
-use borrow.Author.Rules.{rules}
 use Rattle.lines.proofs.text.put_refused.Goals as goal
 
 pub returns : goal.returns

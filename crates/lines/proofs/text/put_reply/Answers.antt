@@ -1,7 +1,6 @@
 -- `lines::text::put_reply` meets its contract.
 -- Assumes nothing.
 use Rattle.lines.specs.Replies.{reply_text}
-use borrow.Author.Rules.{rules}
 use Rattle.lines.proofs.text.put_reply.Goals as goal
 
 pub returns-in-Accepted : goal.returns-in-Accepted

@@ -4,7 +4,6 @@ use mathlib.Core.Path.{ap, ◌∙◌}
 use native.Mathlib.Omega.{arith}
 use mathlib.Core.List.{◌++◌}
 use Rattle.grammar.proofs.Texts.{twenty, decimal_is, put_both, put_as}
-use borrow.Author.Rules.{rules}
 use Rattle.lines.proofs.text.spell.Goals as goal
 
 pub put-requires : goal.put-requires

@@ -1,6 +1,5 @@
 -- `lines::turns::asked_history` meets its contract.
 -- Assumes nothing.
-use borrow.Author.Rules.{rules}
 use Rattle.lines.proofs.turns.asked_history.Goals as goal
 
 pub returns-in-Open : goal.returns-in-Open

@@ -3,7 +3,6 @@
 use mathlib.Core.Path.{sym, ◌∙◌}
 use Rattle.lines.specs.Calling.{call_of}
 use Rattle.lines.proofs.Called.{step_refused, start_open, start_closed, open_few, open_many}
-use borrow.Author.Rules.{rules}
 use Rattle.lines.proofs.turns.call_of.Goals as goal
 
 pub returns-in_default : goal.returns-in_default

@@ -1,7 +1,6 @@
 -- `lines::turns::opened_turn` meets its contract.
 -- Assumes nothing.
 use mathlib.Core.Path.{◌∙◌}
-use borrow.Author.Rules.{rules}
 use Rattle.lines.proofs.turns.opened_turn.Goals as goal
 
 pub returns-in-Refused : goal.returns-in-Refused

@@ -2,7 +2,6 @@
 -- Assumes nothing.
 use mathlib.Core.Path.{ap, ◌∙◌}
 use Rattle.lines.specs.Calling.{call}
-use borrow.Author.Rules.{rules}
 use Rattle.lines.proofs.turns.refused.Goals as goal
 
 pub returns : goal.returns

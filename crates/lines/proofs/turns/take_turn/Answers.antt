@@ -1,7 +1,6 @@
 -- A line is taken by the call that it makes: a start and an open are lent the words of V versions, which the version table has, and a refusal nothing.
 -- Assumes nothing.
-use Rattle.std.proofs.Common.{◌≡◌, ◌≤◌, ◌++◌, ◌∙◌, ℕ, sym, ap, arith, length, take, drop, eq-eqb, ne_eqb, length-take-le}
-use Rattle.trie.specs.declared.Operation.{Operation}
+use Rattle.std.proofs.Common.{◌++◌, ◌∙◌, ℕ, sym, ap, arith, take, drop, eq-eqb, ne_eqb, length-take-le}
 use Rattle.trie.specs.declared.Accepted.{Accepted}
 use Rattle.trie.specs.Values.{accepted_of}
 use Rattle.trie.specs.Calls.{after, state, start_of, open_of}

@@ -1,12 +1,7 @@
 -- What the loop of `opening/fill_nodes` keeps, and how it ends.
-use mathlib.Core.Path.{ap, ◌∙◌, ◌≡◌}
-use lib.ListN.{length}
-use Rattle.trie.proofs.OpenLaws.{filled_length}
+use mathlib.Core.Path.{◌≡◌}
 use Prim.Native.Nat.{◌*◌, ◌-◌, ◌≤◌}
-use native.Mathlib.Omega.{arith}
-use borrow.Author.Rules.{rules}
 use Rattle.trie.specs.Opening.{filled, first_node}
-use Rattle.steps.proofs.Fills.{filled_none, filled_next, filled_all}
 use Rattle.steps.proofs.opening.fill_nodes.Given as goal
 
 abbrev pub invariant-loop-i : goal.invariant-loop-i

@@ -1,12 +1,6 @@
 -- `steps::opening::fill_versions` meets its contract.
 -- Assumes nothing.
-use mathlib.Core.Path.{ap, ◌∙◌, ◌≡◌}
-use lib.ListN.{length}
-use Rattle.trie.proofs.OpenLaws.{filled_length}
-use Prim.Native.Nat.{◌*◌, ◌-◌, ◌≤◌}
 use native.Mathlib.Omega.{arith}
-use borrow.Author.Rules.{rules}
-use Rattle.trie.specs.Opening.{filled, first_word}
 use Rattle.steps.proofs.Fills.{filled_none, filled_next, filled_all}
 use Rattle.steps.proofs.opening.fill_versions.Goals as goal
 

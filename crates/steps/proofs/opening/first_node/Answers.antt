@@ -1,7 +1,6 @@
 -- `steps::opening::first_node` meets its contract.
 -- Assumes nothing.
 use borrow.Author.Tests.{eq-eqb, ne_eqb}
-use borrow.Author.Rules.{rules}
 use Rattle.steps.proofs.opening.first_node.Goals as goal
 
 pub returns-then-x-eq0 : goal.returns-then-x-eq0

@@ -1,7 +1,6 @@
 -- `steps::opening::first_word` meets its contract.
 -- Assumes nothing.
 use borrow.Author.Tests.{lt-ltb, le-ltb}
-use borrow.Author.Rules.{rules}
 use Rattle.steps.proofs.opening.first_word.Goals as goal
 
 pub returns-then-n-x : goal.returns-then-n-x

@@ -3,7 +3,6 @@
 use native.Mathlib.Omega.{arith}
 use Rattle.steps.proofs.Grants.{let_in}
 use Rattle.steps.proofs.Fills.{open_1, open_3, open_fills}
-use borrow.Author.Rules.{rules}
 use Rattle.std.proofs.Common.{ap}
 use Rattle.std.specs.Prelude.{not}
 use Rattle.steps.proofs.opening.open_tables.Goals as goal

@@ -1,6 +1,5 @@
 -- `steps::starting::accept` meets its contract.
 -- Assumes nothing.
-use borrow.Author.Rules.{rules}
 use Rattle.steps.proofs.starting.accept.Goals as goal
 
 pub returns-in-Update : goal.returns-in-Update

@@ -1,7 +1,6 @@
 -- `steps::starting::grant` meets its contract.
 -- Assumes nothing.
 use Rattle.steps.proofs.Grants.{grant_damaged, grant_unsound, grant_shares}
-use borrow.Author.Rules.{rules}
 use Rattle.steps.proofs.starting.grant.Goals as goal
 
 pub returns-in-Damaged : goal.returns-in-Damaged

@@ -1,7 +1,6 @@
 -- `steps::starting::has_room` meets its contract: no sum is formed that would pass V.
 -- Assumes nothing.
 use Rattle.steps.proofs.Grants.{room_past, room_sum}
-use borrow.Author.Rules.{rules}
 use Rattle.std.proofs.Common.{ap}
 use Rattle.std.specs.Prelude.{not}
 use Rattle.steps.proofs.starting.has_room.Goals as goal

@@ -1,7 +1,6 @@
 -- `steps::starting::share` meets its contract.
 -- Assumes nothing.
 use Rattle.steps.proofs.Grants.{share_accepts, share_refuses, share_asks}
-use borrow.Author.Rules.{rules}
 use Rattle.steps.proofs.starting.share.Goals as goal
 
 pub returns-then-has_room : goal.returns-then-has_room

@@ -1,7 +1,6 @@
 -- `steps::starting::start_record` meets its contract.
 -- Assumes nothing.
 use Rattle.steps.proofs.Grants.{start_1, start_3, start_5, start_7, start_grants}
-use borrow.Author.Rules.{rules}
 use Rattle.std.proofs.Common.{ap}
 use Rattle.std.specs.Prelude.{not}
 use Rattle.steps.proofs.starting.start_record.Goals as goal
