@@ -1,4 +1,4 @@
-//! Finds the proved archive and links it: in the folder that KITESONNET_LIB names, or else where `rt staticlib` writes it.
+//! Finds the proved archive and links it: in the folder that KITESONNET_LIB names, or else where `rt lib` writes it.
 //! If it is not there, this stops with a sentence about what to do, since a linker's message would not say it.
 
 use std::env;
@@ -6,7 +6,7 @@ use std::path::{Path, PathBuf};
 use std::process::exit;
 
 const NAMED_BY: &str = "KITESONNET_LIB";
-const WRITTEN_TO: &str = "../../target/staticlib";
+const WRITTEN_TO: &str = "../../crates/kitesonnet/out";
 const ARCHIVE: &str = "libkitesonnet.a";
 
 fn main() {
@@ -26,6 +26,6 @@ fn main() {
 
 fn say_what_is_missing(archive: &Path) {
     eprintln!("There is no proved archive {}.", archive.display());
-    eprintln!("Either run `rt staticlib kitesonnet` at the root of the project, which proves and writes it,");
+    eprintln!("Either run `rt lib` in the folder crates/kitesonnet of the project, which proves and writes it,");
     eprintln!("or set {NAMED_BY} to the full path of the folder that holds {ARCHIVE}.");
 }

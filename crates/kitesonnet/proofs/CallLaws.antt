@@ -15,10 +15,10 @@ use Rattle.trie.proofs.SizeLaws.{and_second}
 use Rattle.trie.specs.Tables.{roomy}
 use Rattle.trie.specs.Record.{idle, busy, operation_fits, promised_of}
 use Rattle.trie.specs.declared.Accepted.{Accepted}
-use Rattle.trie.specs.Values.{Ok, ok, on, done, value_of, accepted_of}
+use Rattle.trie.specs.Values.{Ok, ok, accepted_of}
 use Rattle.trie.specs.Opening.{Opened, check_tables, open_nodes, open_versions, open_board, open_tables_of}
 use Rattle.trie.proofs.OpenLaws.{open_board_idle}
-use Rattle.trie.specs.Starting.{Started, check as check_start, start_record_of}
+use Rattle.trie.specs.Starting.{check as check_start, start_record_of}
 use Rattle.trie.specs.Stepping.{Stepped, stepped_by, step_record_of}
 use Rattle.trie.proofs.StepLaws.{gives_not, step_refused}
 use Rattle.trie.specs.Calls.{state, After, after, check, check_call, manned, open_of, start_of, step_at, step_of}
@@ -27,9 +27,8 @@ use Rattle.judging.proofs.JudgingLaws.{manned_by_lem, seated, call_refused, call
 use Rattle.kitesonnet.specs.declared.operations.MaybeOperation.{MaybeOperation}
 use Rattle.kitesonnet.specs.declared.reading.Record.{Record}
 use Rattle.kitesonnet.specs.Seats.{seats_of, record_at, worker_of, said, readable, seat_put}
-use Rattle.kitesonnet.specs.Answers.{course_put}
 use Rattle.kitesonnet.specs.Calls.{Lent, lent, state_of, Back, back, returned, writes_first, writes_at, kite_open_of, start_damaged, start_said, start_given, Answered, answered, answer_after, step_said, step_told}
-use Rattle.kitesonnet.specs.OneRecord.{Begins, begins, begun_by, begun_in, starts_in, Moves, moves, moves_in, lost_in, stepped_in, steps_in, steps_at}
+use Rattle.kitesonnet.specs.OneRecord.{Begins, begun_by, begun_in, Moves, moves_in, stepped_in, steps_in}
 use Rattle.kitesonnet.specs.Promising.{promised_in}
 use Rattle.kitesonnet.proofs.PromisingLaws.{promised_is, promised_damaged}
 use Rattle.kitesonnet.specs.Seats.{seats_rested}

@@ -12,7 +12,6 @@ use Rattle.trie.specs.Record.{idle}
 use Rattle.trie.specs.Values.{Ok, on, done, value_of}
 use Rattle.trie.specs.Starting.{Started, start_record_of}
 use Rattle.trie.specs.Stepping.{Stepped, step_record_of}
-use Rattle.trie.specs.Calls.{after}
 use Rattle.kitesonnet.specs.declared.reading.Record.{Record}
 use Rattle.kitesonnet.specs.Seats.{record_at, worker_of, seat_put}
 use Rattle.kitesonnet.specs.Answers.{course_put}

@@ -1,7 +1,6 @@
 -- What is promised, summed from the board's words, and numbers that it never passes.
 -- Assumes nothing.
 use Rattle.std.specs.Prelude.{List, ℕ, zero, suc, ◌*◌, ◌≤◌, take, drop}
-use Rattle.trie.specs.declared.Phase.{Phase}
 use Rattle.trie.specs.declared.Promised.{Promised}
 use Rattle.trie.specs.Size.{most_workers}
 use Rattle.trie.specs.Record.{owed_phase, together}

@@ -3,7 +3,6 @@
 use mathlib.Core.Path.{ap, ◌∙◌}
 use lib.ListN.{set}
 use Rattle.kitesonnet.specs.Answers.{answer_put}
-use borrow.Author.Rules.{rules}
 use Rattle.kitesonnet.proofs.answers.put_answer.Goals as goal
 
 pub returns : goal.returns

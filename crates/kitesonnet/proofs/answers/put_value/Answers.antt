@@ -3,7 +3,6 @@
 use mathlib.Core.Path.{sym, ap, ◌∙◌}
 use Rattle.trie.specs.Values.{value_of}
 use Rattle.kitesonnet.specs.Answers.{value_put}
-use borrow.Author.Rules.{rules}
 use Rattle.kitesonnet.proofs.answers.put_value.Goals as goal
 
 pub returns-in-Yes : goal.returns-in-Yes

@@ -4,7 +4,6 @@ use mathlib.Core.Path.{sym, ap, ◌∙◌}
 use borrow.Author.Tests.{le-leb, lt-leb}
 use Rattle.decibel.specs.Answer.{told_of}
 use Rattle.kitesonnet.proofs.Comes.{energy_short, energy_refused, energy_given}
-use borrow.Author.Rules.{rules}
 use Rattle.kitesonnet.proofs.converting.kite_energy.Goals as goal
 
 pub returns-then-answer-lt-ANSWER_WORDS : goal.returns-then-answer-lt-ANSWER_WORDS

@@ -2,10 +2,8 @@
 -- Assumes nothing.
 use mathlib.Core.Path.{sym, ◌∙◌}
 use native.Mathlib.Omega.{arith}
-use borrow.Author.Tests.{not-true, not-false}
 use Rattle.kitesonnet.proofs.CallLaws.{manned_seats, open_sized, open_manned}
 use Rattle.kitesonnet.proofs.Comes.{open_stays, open_begins}
-use borrow.Author.Rules.{rules}
 use Rattle.kitesonnet.proofs.opening.kite_open.Goals as goal
 
 pub returns-then-not-is_allowed : goal.returns-then-not-is_allowed

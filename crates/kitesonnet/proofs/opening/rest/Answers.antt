@@ -1,9 +1,7 @@
 -- `kitesonnet::opening::rest` meets its contract. The workers passed are at rest.
 -- Assumes nothing.
 use mathlib.Core.Path.{◌≡◌, ap, ◌∙◌}
-use Prim.Native.Nat.{◌-◌, ◌≤◌}
 use native.Mathlib.Omega.{arith}
-use lib.ListN.{length}
 use Rattle.kitesonnet.specs.Seats.{seats_rested}
 use Rattle.kitesonnet.proofs.SeatLaws.{rested_first, rested_on}
 use borrow.Author.Rules.{rules}

@@ -1,11 +1,8 @@
 -- What the loop of `opening/rest` keeps, and how it ends.
-use mathlib.Core.Path.{◌≡◌, ap, ◌∙◌}
+use mathlib.Core.Path.{◌≡◌}
 use Prim.Native.Nat.{◌-◌, ◌≤◌}
-use native.Mathlib.Omega.{arith}
 use lib.ListN.{length}
 use Rattle.kitesonnet.specs.Seats.{seats_rested}
-use Rattle.kitesonnet.proofs.SeatLaws.{rested_first, rested_on}
-use borrow.Author.Rules.{rules}
 use Rattle.kitesonnet.proofs.opening.rest.Given as goal
 
 abbrev pub invariant-loop-i : goal.invariant-loop-i

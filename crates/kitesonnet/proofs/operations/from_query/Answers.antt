@@ -1,6 +1,5 @@
 -- `kitesonnet::operations::from_query` meets its contract.
 -- Assumes nothing.
-use borrow.Author.Rules.{rules}
 use Rattle.kitesonnet.proofs.operations.from_query.Goals as goal
 
 pub returns-in-Is : goal.returns-in-Is

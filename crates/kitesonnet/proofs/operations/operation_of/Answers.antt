@@ -2,7 +2,6 @@
 -- Assumes nothing.
 use borrow.Author.Tests.{eq-eqb, ne_eqb, le-leb, lt-leb}
 use Rattle.kitesonnet.specs.Operations.{operation_of}
-use borrow.Author.Rules.{rules}
 use Rattle.kitesonnet.proofs.operations.operation_of.Goals as goal
 
 pub returns-then-kind-le-DELETE_KIND : goal.returns-then-kind-le-DELETE_KIND

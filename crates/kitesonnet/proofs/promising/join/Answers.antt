@@ -2,7 +2,6 @@
 -- Assumes nothing.
 use native.Mathlib.Omega.{arith}
 use Rattle.kitesonnet.proofs.PromisingLaws.{small_of}
-use borrow.Author.Rules.{rules}
 use Rattle.kitesonnet.proofs.promising.join.Goals as goal
 
 pub overflow_add-result : goal.overflow_add-result

@@ -1,6 +1,5 @@
 -- `kitesonnet::promising::owed` meets its contract.
 -- Assumes nothing.
-use borrow.Author.Rules.{rules}
 use Rattle.kitesonnet.proofs.promising.owed.Goals as goal
 
 pub returns-in-Read : goal.returns-in-Read

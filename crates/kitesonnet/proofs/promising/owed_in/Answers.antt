@@ -1,6 +1,5 @@
 -- `kitesonnet::promising::owed_in` meets its contract.
 -- Assumes nothing.
-use borrow.Author.Rules.{rules}
 use Rattle.kitesonnet.proofs.promising.owed_in.Goals as goal
 
 pub returns-in-Is : goal.returns-in-Is

@@ -1,11 +1,11 @@
 -- `kitesonnet::promising::promised_in` meets its contract. What is summed is what the words from a place on say.
 -- Assumes nothing.
-use mathlib.Core.Path.{◌≡◌, ap, ◌∙◌}
-use Prim.Native.Nat.{◌*◌, ◌-◌, ◌≤◌}
+use mathlib.Core.Path.{ap, ◌∙◌}
+use Prim.Native.Nat.{◌*◌, ◌-◌}
 use native.Mathlib.Omega.{arith}
 use lib.ListN.{drop}
 use Rattle.kitesonnet.specs.Seats.{record_words}
-use Rattle.kitesonnet.specs.Promising.{owed_in, promised_in}
+use Rattle.kitesonnet.specs.Promising.{owed_in}
 use Rattle.kitesonnet.proofs.PromisingLaws.{owed_small, promised_small, promised_none, promised_on, promised_all}
 use borrow.Author.Rules.{rules}
 use Rattle.kitesonnet.proofs.promising.promised_in.Goals as goal

@@ -1,12 +1,9 @@
 -- What the loop of `promising/promised_in` keeps, and how it ends.
-use mathlib.Core.Path.{◌≡◌, ap, ◌∙◌}
+use mathlib.Core.Path.{◌≡◌}
 use Prim.Native.Nat.{◌*◌, ◌-◌, ◌≤◌}
-use native.Mathlib.Omega.{arith}
 use lib.ListN.{drop}
 use Rattle.kitesonnet.specs.Seats.{record_words}
-use Rattle.kitesonnet.specs.Promising.{owed_in, promised_in}
-use Rattle.kitesonnet.proofs.PromisingLaws.{owed_small, promised_small, promised_none, promised_on, promised_all}
-use borrow.Author.Rules.{rules}
+use Rattle.kitesonnet.specs.Promising.{promised_in}
 use Rattle.kitesonnet.proofs.promising.promised_in.Given as goal
 
 abbrev pub invariant-loop-i : goal.invariant-loop-i

@@ -3,7 +3,6 @@
 use mathlib.Core.Path.{sym, ap, ◌∙◌}
 use Rattle.kitesonnet.proofs.Places.{no_ask, ask_in_lem, ask_not}
 use Rattle.kitesonnet.specs.Reading.{ask_in}
-use borrow.Author.Rules.{rules}
 use Rattle.kitesonnet.proofs.reading.ask_in.Goals as goal
 
 pub returns-in_default : goal.returns-in_default

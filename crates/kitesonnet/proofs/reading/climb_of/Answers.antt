@@ -3,7 +3,6 @@
 use Rattle.kitesonnet.specs.Reading.{climb_of, climbing}
 use mathlib.Core.Path.{ap, ◌∙◌}
 use Rattle.kitesonnet.proofs.Places.{climb_by}
-use borrow.Author.Rules.{rules}
 use Rattle.kitesonnet.proofs.reading.climb_of.Goals as goal
 
 pub returns-then-yes-second : goal.returns-then-yes-second

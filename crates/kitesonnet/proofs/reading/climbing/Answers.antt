@@ -1,7 +1,6 @@
 -- `kitesonnet::reading::climbing` meets its contract.
 -- Assumes nothing.
 use mathlib.Core.Path.{sym, ap, ◌∙◌}
-use borrow.Author.Rules.{rules}
 use Rattle.kitesonnet.specs.Reading.{climbing}
 use Rattle.kitesonnet.proofs.reading.climbing.Goals as goal
 

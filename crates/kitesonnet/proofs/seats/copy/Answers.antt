@@ -1,10 +1,9 @@
 -- `kitesonnet::seats::copy` meets its contract. The words passed stand in the table.
 -- Assumes nothing.
 use mathlib.Core.Path.{◌≡◌, ap, ◌∙◌}
-use Prim.Native.Nat.{◌≤◌, ◌-◌}
 use native.Mathlib.Omega.{arith}
 use lib.ListN.{length, get_or, set, length-set}
-use lib.Seq.{paste, paste-zero}
+use lib.Seq.{paste-zero}
 use borrow.Author.Rules.{rules}
 use Rattle.kitesonnet.proofs.Copied.{copy_first}
 use Rattle.kitesonnet.proofs.seats.copy.Goals as goal

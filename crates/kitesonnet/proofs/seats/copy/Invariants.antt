@@ -1,11 +1,8 @@
 -- What the loop of `seats/copy` keeps, and how it ends.
-use mathlib.Core.Path.{◌≡◌, ap, ◌∙◌}
+use mathlib.Core.Path.{◌≡◌}
 use Prim.Native.Nat.{◌≤◌, ◌-◌}
-use native.Mathlib.Omega.{arith}
-use lib.ListN.{length, get_or, set, length-set}
-use lib.Seq.{paste, paste-zero}
-use borrow.Author.Rules.{rules}
-use Rattle.kitesonnet.proofs.Copied.{copy_first}
+use lib.ListN.{length}
+use lib.Seq.{paste}
 use Rattle.kitesonnet.proofs.seats.copy.Given as goal
 
 abbrev pub invariant-loop-i : goal.invariant-loop-i

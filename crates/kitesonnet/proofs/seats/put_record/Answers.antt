@@ -3,7 +3,6 @@
 use mathlib.Core.Path.{ap, ◌∙◌}
 use Prim.Native.Nat.{◌*◌}
 use lib.Seq.{paste}
-use borrow.Author.Rules.{rules}
 use Rattle.kitesonnet.proofs.seats.put_record.Goals as goal
 
 pub returns : goal.returns

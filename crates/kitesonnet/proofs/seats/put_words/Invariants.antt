@@ -1,11 +1,8 @@
 -- What the loop of `seats/put_words` keeps, and how it ends.
-use mathlib.Core.Path.{◌≡◌, ap, ◌∙◌}
-use Prim.Native.Nat.{◌+◌, ◌-◌, ◌≤◌}
-use native.Mathlib.Omega.{arith}
-use lib.ListN.{length, get_or, set, length-set}
-use lib.Seq.{paste, paste-zero}
-use Rattle.kitesonnet.proofs.Copied.{copy_next}
-use borrow.Author.Rules.{rules}
+use mathlib.Core.Path.{◌≡◌}
+use Prim.Native.Nat.{◌-◌, ◌≤◌}
+use lib.ListN.{length}
+use lib.Seq.{paste}
 use Rattle.kitesonnet.proofs.seats.put_words.Given as goal
 
 abbrev pub invariant-loop-i : goal.invariant-loop-i

@@ -2,7 +2,6 @@
 -- Assumes nothing.
 use mathlib.Core.Path.{ap, ◌∙◌}
 use Rattle.kitesonnet.specs.Reading.{record_of}
-use borrow.Author.Rules.{rules}
 use Rattle.kitesonnet.proofs.seats.record_at.Goals as goal
 
 pub returns : goal.returns

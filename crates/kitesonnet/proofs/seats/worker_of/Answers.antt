@@ -1,6 +1,5 @@
 -- `kitesonnet::seats::worker_of` meets its contract.
 -- Assumes nothing.
-use borrow.Author.Rules.{rules}
 use Rattle.kitesonnet.proofs.seats.worker_of.Goals as goal
 
 pub returns-in-Not : goal.returns-in-Not

@@ -2,7 +2,6 @@
 -- Assumes nothing.
 use native.Mathlib.Omega.{arith}
 use Rattle.kitesonnet.proofs.Comes.{no_operation_lem, start_judged, start_comes, sits_so}
-use borrow.Author.Rules.{rules}
 use Rattle.kitesonnet.proofs.starting.kite_start.Goals as goal
 
 pub returns-in_default : goal.returns-in_default

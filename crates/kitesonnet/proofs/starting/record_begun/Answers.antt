@@ -1,7 +1,6 @@
 -- `kitesonnet::starting::record_begun` meets its contract.
 -- Assumes nothing.
 use Rattle.kitesonnet.proofs.Comes.{begun_accepted, begun_refused}
-use borrow.Author.Rules.{rules}
 use Rattle.kitesonnet.proofs.starting.record_begun.Goals as goal
 
 pub returns-in_default : goal.returns-in_default

@@ -4,7 +4,6 @@ use native.Mathlib.Omega.{arith}
 use lib.Count.{trailing_le}
 use Rattle.trie.specs.Size.{height_of}
 use Rattle.kitesonnet.proofs.Comes.{begun_so}
-use borrow.Author.Rules.{rules}
 use Rattle.kitesonnet.proofs.starting.start_seated.Goals as goal
 
 pub overflow_add-height : goal.overflow_add-height

@@ -3,7 +3,6 @@
 use native.Mathlib.Omega.{arith}
 use borrow.Author.Tests.{le-leb, lt-leb}
 use Rattle.kitesonnet.proofs.Comes.{step_short, step_judged, step_comes, sits_so}
-use borrow.Author.Rules.{rules}
 use Rattle.kitesonnet.proofs.stepping.kite_step.Goals as goal
 
 pub returns-then-answer-lt-ANSWER_WORDS : goal.returns-then-answer-lt-ANSWER_WORDS

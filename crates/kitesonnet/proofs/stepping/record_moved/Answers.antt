@@ -1,7 +1,6 @@
 -- `kitesonnet::stepping::record_moved` meets its contract.
 -- Assumes nothing.
 use Rattle.kitesonnet.proofs.Comes.{moved_refused, moved_on, moved_done}
-use borrow.Author.Rules.{rules}
 use Rattle.kitesonnet.proofs.stepping.record_moved.Goals as goal
 
 pub returns-in-Refused : goal.returns-in-Refused

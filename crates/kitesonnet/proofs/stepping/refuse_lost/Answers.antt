@@ -1,8 +1,6 @@
 -- `kitesonnet::stepping::refuse_lost` meets its contract.
 -- Assumes nothing.
 use mathlib.Core.Path.{sym, ◌∙◌}
-use borrow.Author.Tests.{not-true, not-false}
-use borrow.Author.Rules.{rules}
 use Rattle.kitesonnet.proofs.stepping.refuse_lost.Goals as goal
 
 pub returns-then-not-is_allowed : goal.returns-then-not-is_allowed

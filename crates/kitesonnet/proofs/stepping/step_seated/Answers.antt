@@ -1,7 +1,6 @@
 -- `kitesonnet::stepping::step_seated` meets its contract.
 -- Assumes nothing.
 use Rattle.kitesonnet.proofs.Comes.{step_lost, step_moves}
-use borrow.Author.Rules.{rules}
 use Rattle.kitesonnet.proofs.stepping.step_seated.Goals as goal
 
 pub returns-in_default : goal.returns-in_default

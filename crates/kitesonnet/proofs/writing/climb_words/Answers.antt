@@ -1,6 +1,5 @@
 -- `kitesonnet::writing::climb_words` meets its contract.
 -- Assumes nothing.
-use borrow.Author.Rules.{rules}
 use Rattle.kitesonnet.proofs.writing.climb_words.Goals as goal
 
 pub returns : goal.returns

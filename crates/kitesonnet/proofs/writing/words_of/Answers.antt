@@ -1,7 +1,6 @@
 -- `kitesonnet::writing::words_of` meets its contract.
 -- Assumes nothing.
 use Rattle.kitesonnet.specs.Writing.{words_of}
-use borrow.Author.Rules.{rules}
 use Rattle.kitesonnet.proofs.writing.words_of.Goals as goal
 
 pub returns-in-Idle : goal.returns-in-Idle
