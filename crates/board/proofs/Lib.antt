@@ -1,3 +1,4 @@
+-- Laws about the parts of the calls, and that each contract leaves one answer.
 pub mod PromisingLaws
 pub mod OpeningLaws
 pub mod Decided

@@ -1,5 +1,5 @@
--- The proof of the third demand, from the machine to the calls, with first that the statement says what the page says
--- and last that it is not about nothing.
+-- The proof of the third demand, from the machine to the calls.
+-- First stands that the statement says what the page says, and last that it is not about nothing.
 -- that it says what the page says
 pub mod PageWords
 -- the machine, and the facts that every step keeps

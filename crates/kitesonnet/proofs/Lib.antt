@@ -1,3 +1,4 @@
+-- The laws about the calls in words, which no one has to read to believe.
 pub mod RecordLaws
 pub mod StrictLaws
 pub mod PromisingLaws

@@ -1,3 +1,4 @@
+-- That the contract of a chunk leaves one answer.
 pub mod Decided
 -- What the proofs of several functions share: the laws of one line, of lines one after the other, and of chunks.
 -- Last stand the laws of the whole program, which no function cites: how the input is cut, what is written, and that an accepted open begins a history.

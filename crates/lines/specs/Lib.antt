@@ -1,5 +1,5 @@
 -- A listing, in the order in which it is to be read: replies, what is kept from line to line, what one line does, and what the bytes of a chunk do.
--- Behind them stand the places of a chunk, that its contract leaves one answer, and last the whole input.
+-- Behind them stand the places of a chunk, and last the whole input. That its contract leaves one answer is shown in proofs/.
 pub mod Replies
 pub mod Watch
 pub mod Turns

@@ -1,3 +1,3 @@
--- What the tests of a record say of it,
--- and then whether it is at an update.
+-- Whether a record is at an update.
+-- What the tests of a record say of it stands in proofs/.
 pub mod Phases

@@ -1,2 +1,2 @@
--- The tables are defined in crate trie,
--- and here is only what a test of this crate's says in the words of those definitions.
+-- The tables are defined in crate trie, and this crate has no definition of its own.
+-- What a test of this crate's says in the words of those definitions stands in proofs/.
