@@ -19,19 +19,19 @@ pub(crate) const RANK_KIND: u64 = 5;
 
 pub(crate) const TOTAL_KIND: u64 = 6;
 
-#[derive(Drop)]
+#[derive(Clone, Copy)]
 pub enum MaybeUpdate {
     Not,
     Is(Update),
 }
 
-#[derive(Drop)]
+#[derive(Clone, Copy)]
 pub enum MaybeQuery {
     Not,
     Is(Query),
 }
 
-#[derive(Drop)]
+#[derive(Clone, Copy)]
 pub enum MaybeOperation {
     Not,
     Is(Operation),

@@ -25,13 +25,13 @@ pub(crate) const RANK_PHASE: u64 = 6;
 
 pub(crate) const SELECT_PHASE: u64 = 7;
 
-#[derive(Drop)]
+#[derive(Clone, Copy)]
 pub enum Record {
     Not,
     Is(Worker),
 }
 
-#[derive(Drop)]
+#[derive(Clone, Copy)]
 pub enum Refresh {
     Not,
     Is(Held),
