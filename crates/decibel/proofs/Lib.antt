@@ -1,6 +1,5 @@
--- The laws that other crates may use.
+-- The laws that other crates may use, and then how a table of many entries is proved at once:
+-- a test of every entry, computed, and the test that this crate's table passes.
 pub mod Laws
--- How a table of many entries is proved at once: a test of every entry, computed,
--- and then the test that this crate's table passes.
 pub mod Table
 pub mod Entries

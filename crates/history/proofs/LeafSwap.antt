@@ -1,4 +1,5 @@
--- The swap at a leaf keeps the facts: with it come those that wait, and all that it brings is as AtLeaf says. Assumes nothing.
+-- The swap at a leaf keeps the facts: with it come those that wait, and all that it brings is as AtLeaf says.
+-- Assumes nothing.
 use Rattle.std.specs.Prelude.{◌≡◌, refl, true, false, List, [], ℕ, suc, ◌≤◌}
 use Rattle.std.proofs.Common.{sym, ◌∙◌, subst, le_refl, arith}
 use mathlib.Core.List.Memᴰ

@@ -1,4 +1,5 @@
--- The laws about the calls in words, which no one has to read to believe.
+-- The laws about the calls in words, from a record's words to any list of calls,
+-- which no one has to read to believe.
 pub mod RecordLaws
 pub mod StrictLaws
 pub mod PromisingLaws

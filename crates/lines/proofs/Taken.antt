@@ -7,7 +7,7 @@ use Prim.Native.Nat.{ℕ, ◌*◌, ◌-◌, ◌≤◌}
 use native.Mathlib.Omega.{arith}
 use borrow.Author.Tests.{leb-true}
 use lib.Dec.{leb, eqb}
-use lib.ListN.{take, drop, take-append-drop}
+use lib.ListN.{take, drop, take-append-drop, length}
 use Rattle.decibel.specs.Told.{Told, refused, gives}
 use Rattle.grammar.specs.declared.Command.{Command}
 use Rattle.grammar.specs.declared.Line.{Line}
@@ -28,7 +28,7 @@ use Rattle.lines.specs.declared.Reply.{Reply}
 use Rattle.lines.specs.declared.Turn.{Turn}
 use Rattle.grammar.specs.Text.{accepted_text, course_text}
 use Rattle.lines.specs.Replies.{reply_text}
-use Rattle.lines.specs.Watch.{Watch, watch, most_cells, most_versions, opened, lent, returned}
+use Rattle.lines.specs.Watch.{Watch, watch, most_cells, most_versions, opened, lent, returned, Roomy}
 use Rattle.lines.specs.Turns.{Answered, answered, refuses, opens, room, open_line, start_line, step_line, line_turn, turned}
 use Rattle.lines.specs.Calling.{words_of, no_operation, call, refusal, stepping, call_of, crew_of, kept_by}
 use Rattle.lines.proofs.Feeds.{not_both}
@@ -66,6 +66,10 @@ most_words Line.Not h = omega arith
 
 pub words_most : (line : Line) (h : History) (c : Call) → c ≡ call_of line h → c.words ≤ width * most_versions
 words_most line h c e = rw e (most_words line h)
+
+-- the version table has the words that a call is lent
+pub lent_few : (line : Line) (h : History) (c : Call) (k : ℕ) (nodes versions : List ℕ) → c ≡ call_of line h → k ≡ c.words → Roomy nodes versions → k ≤ length versions
+lent_few line h c k nodes versions e l room = omega (arith, l, words_most line h c e, room.versions_long)
 
 -- the checks of an open, by how they come out
 abbrev checked : ℕ → ℕ → State → Bool → Bool → Bool → After Ok

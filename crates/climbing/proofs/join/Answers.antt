@@ -15,5 +15,12 @@ returns-then-not-is_within-2 c =
 
 pub returns : goal.returns
 returns c =
-    join_places _ _ _ _ _ _ _ _ _ c.load-left.ensures c.load-right.ensures _ _ _ _ c.is_within.ensures (ap not c.if-not-is_within.false) c.is_within-2.ensures (ap not c.if-not-is_within-2.false) c.word.ensures
-    (sum_named c.args.b c.args.c c.word.result c.args.v c.args.l c.args.r c.load-left.result c.load-right.result _ _ _ (summed c.load-left.result.count c.load-right.result.count c.args.b.cells _ _ c.sum_within.ensures c.is_within.ensures (ap not c.if-not-is_within.false)) (summed c.load-left.result.energy.0 c.load-right.result.energy.0 c.args.b.energy _ _ c.sum_within-2.ensures c.is_within-2.ensures (ap not c.if-not-is_within-2.false)) c.place_sum.ensures)
+    let given = c.args in
+    let left = c.load-left.result in
+    let right = c.load-right.result in
+    let few = ap not c.if-not-is_within.false in
+    let quiet = ap not c.if-not-is_within-2.false in
+    join_places _ _ _ _ _ _ _ _ _ c.load-left.ensures c.load-right.ensures _ _ _ _ c.is_within.ensures few c.is_within-2.ensures quiet c.word.ensures
+    (sum_named given.b given.c c.word.result given.v given.l given.r left right _ _ _
+    (summed left.count right.count given.b.cells _ _ c.sum_within.ensures c.is_within.ensures few)
+    (summed left.energy.0 right.energy.0 given.b.energy _ _ c.sum_within-2.ensures c.is_within-2.ensures quiet) c.place_sum.ensures)

@@ -1,4 +1,5 @@
 -- The digits so far and the bytes that are left come to the same number.
+-- Assumes nothing.
 use Rattle.std.proofs.Common.{length, drop, ◌-◌, ◌≡◌, ◌≤◌, ◌<◌, ◌^◌}
 use Rattle.grammar.specs.Grammar.{digits, number_of}
 use Rattle.grammar.proofs.read_number.Given as goal

@@ -1,4 +1,5 @@
 -- What is the same so far, and what is left of the word and of the bytes, decide as the whole does.
+-- Assumes nothing.
 use Rattle.std.proofs.Common.{length, drop, ◌-◌, ◌≡◌, ◌≤◌, ◌&&◌}
 use Rattle.grammar.specs.Grammar.{starts}
 use Rattle.grammar.proofs.starts_with.Given as goal

@@ -27,6 +27,13 @@ returns-then-not-is_sound_in c =
 pub returns : goal.returns
 unfolding read_of
 returns c =
-    simp
-    (le-leb _ _ c.if-n-gt-MOST_CELLS.false, sym c.update_fits.ensures ∙ c.if-not-update_fits.false, ← c.cell.ensures, ← c.word.ensures, sym c.is_sound_in.ensures ∙ c.if-not-is_sound_in.false, ← c.load.ensures, ← c.is_as_wanted-found.ensures)
+    simp (
+      le-leb _ _ c.if-n-gt-MOST_CELLS.false,
+      sym c.update_fits.ensures ∙ c.if-not-update_fits.false,
+      ← c.cell.ensures,
+      ← c.word.ensures,
+      sym c.is_sound_in.ensures ∙ c.if-not-is_sound_in.false,
+      ← c.load.ensures,
+      ← c.is_as_wanted-found.ensures,
+    )
     c.go_by.ensures

@@ -30,12 +30,27 @@ new_leaf-requires c = sym c.update_fits.ensures ∙ c.if-not-update_fits.false
 pub returns-then-now-v : goal.returns-then-now-v
 unfolding swap_of
 returns-then-now-v c =
-    simp
-    (le-leb _ _ c.if-n-gt-MOST_CELLS.false, sym c.update_fits.ensures ∙ c.if-not-update_fits.false, sym c.is_sound_in.ensures ∙ c.if-not-is_sound_in.false, ← c.cell.ensures, ← c.word-now.ensures, eq-eqb _ _ c.if-now-v.true, ← c.new_leaf.ensures, ← c.climb_from.ensures)
+    simp (
+      le-leb _ _ c.if-n-gt-MOST_CELLS.false,
+      sym c.update_fits.ensures ∙ c.if-not-update_fits.false,
+      sym c.is_sound_in.ensures ∙ c.if-not-is_sound_in.false,
+      ← c.cell.ensures,
+      ← c.word-now.ensures,
+      eq-eqb _ _ c.if-now-v.true,
+      ← c.new_leaf.ensures,
+      ← c.climb_from.ensures,
+    )
     c.plan_swap.ensures
 
 pub returns-else-now-v : goal.returns-else-now-v
 unfolding swap_of
 returns-else-now-v c =
-    simp
-    (le-leb _ _ c.if-n-gt-MOST_CELLS.false, sym c.update_fits.ensures ∙ c.if-not-update_fits.false, sym c.is_sound_in.ensures ∙ c.if-not-is_sound_in.false, ← c.cell.ensures, ← c.word-now.ensures, ne_eqb _ _ c.if-now-v.false, c.climb_from-else-now-v.ensures)
+    simp (
+      le-leb _ _ c.if-n-gt-MOST_CELLS.false,
+      sym c.update_fits.ensures ∙ c.if-not-update_fits.false,
+      sym c.is_sound_in.ensures ∙ c.if-not-is_sound_in.false,
+      ← c.cell.ensures,
+      ← c.word-now.ensures,
+      ne_eqb _ _ c.if-now-v.false,
+      c.climb_from-else-now-v.ensures,
+    )

@@ -19,7 +19,13 @@ returns-then-not-passed-j c =
 
 pub select_seen-requires : goal.select_seen-requires
 select_seen-requires c =
-    (omega (arith, c.if-b-gt-TALLEST.false, look_depth c.args.b c.args.s c.args.versions.now _ _ c.look.ensures c.in-Sound.is), select_near c.args.b c.args.j c.args.s c.args.x c.args.passed c.args.versions.now c.if-b-gt-TALLEST.false _ c.ancestor.ensures (ap not c.if-not-passed-j.false) _ _ c.look.ensures c.in-Sound.is, select_passed c.args.b c.args.j c.args.s c.args.x c.args.passed c.args.versions.now c.if-b-gt-TALLEST.false _ c.ancestor.ensures (ap not c.if-not-passed-j.false))
+    let given = c.args in
+    let tall = c.if-b-gt-TALLEST.false in
+    let stands = ap not c.if-not-passed-j.false in (
+      omega (arith, tall, look_depth given.b given.s given.versions.now _ _ c.look.ensures c.in-Sound.is),
+      select_near given.b given.j given.s given.x given.passed given.versions.now tall _ c.ancestor.ensures stands _ _ c.look.ensures c.in-Sound.is,
+      select_passed given.b given.j given.s given.x given.passed given.versions.now tall _ c.ancestor.ensures stands,
+    )
 
 pub returns-in-Unsound : goal.returns-in-Unsound
 returns-in-Unsound c =

@@ -1,4 +1,5 @@
 -- What the loop of `rest` keeps: the first i workers are at rest, and the board is as long as it was.
+-- Assumes nothing.
 use Rattle.std.proofs.Common.{◌-◌, ◌≡◌, ◌≤◌, length}
 use Rattle.trie.specs.Record.{idle}
 use Rattle.trie.specs.Opening.{open_board}

@@ -1,4 +1,5 @@
 -- What the loop of `promised` keeps: the first i workers are counted.
+-- Assumes nothing.
 use Rattle.std.proofs.Common.{◌-◌, ◌≡◌, ◌≤◌}
 use Rattle.board.specs.Promising.{tally_of}
 use Rattle.board.proofs.promising.promised.Given as goal

@@ -9,35 +9,35 @@ use Rattle.trie.specs.Record.{idle, promised_of}
 use Rattle.trie.specs.Values.{accepted_of}
 use Rattle.trie.specs.Starting.{start_record_of}
 use Rattle.trie.specs.Calls.{state, after, start_at}
-use Rattle.judging.proofs.JudgingLaws.{seated, start_seated, start_refused}
+use Rattle.judging.proofs.JudgingLaws.{start_seated, start_refused}
 use Rattle.board.proofs.PromisingLaws.{share_small}
-use Rattle.board.proofs.Refusals.{no_refusal, some_refusal}
+use Rattle.board.proofs.Refusals.{no_refusal, some_refusal, sits}
 use Rattle.board.proofs.starting.start.Goals as goal
 
 pub promised-sum-requires : goal.promised-sum-requires
 promised-sum-requires c =
-    let h = seated c.args.n c.args.w c.args.i c.args.nodes.now c.args.versions.now c.args.board.now (no_refusal _ _ c.judge-refusal.ensures c.if-refusal-eq0.true) in
-    (omega (arith, c.share.ensures, share_small c.args.n), h.few, h.seats)
+    let seat = sits c.args.n c.args.w c.args.i c.args.nodes.now c.args.versions.now c.args.board.now _ c.judge-refusal.ensures c.if-refusal-eq0.true in
+    (omega (arith, c.share.ensures, share_small c.args.n), seat.few, seat.seats)
 
 pub offset_bounds-board-at : goal.offset_bounds-board-at
 offset_bounds-board-at c =
-    let h = seated c.args.n c.args.w c.args.i c.args.nodes.now c.args.versions.now c.args.board.now (no_refusal _ _ c.judge-refusal.ensures c.if-refusal-eq0.true) in
-    omega (arith, h.below, h.few)
+    let seat = sits c.args.n c.args.w c.args.i c.args.nodes.now c.args.versions.now c.args.board.now _ c.judge-refusal.ensures c.if-refusal-eq0.true in
+    omega (arith, seat.below, seat.few)
 
 pub slice_copy_out-start_record : goal.slice_copy_out-start_record
 slice_copy_out-start_record c =
-    let h = seated c.args.n c.args.w c.args.i c.args.nodes.now c.args.versions.now c.args.board.now (no_refusal _ _ c.judge-refusal.ensures c.if-refusal-eq0.true) in
-    omega (arith, h.below, h.seats)
+    let seat = sits c.args.n c.args.w c.args.i c.args.nodes.now c.args.versions.now c.args.board.now _ c.judge-refusal.ensures c.if-refusal-eq0.true in
+    omega (arith, seat.below, seat.seats)
 
 pub offset_bounds-board-at-then-refusal-eq0 : goal.offset_bounds-board-at-then-refusal-eq0
 offset_bounds-board-at-then-refusal-eq0 c =
-    let h = seated c.args.n c.args.w c.args.i c.args.nodes.now c.args.versions.now c.args.board.now (no_refusal _ _ c.judge-refusal.ensures c.if-refusal-eq0.true) in
-    omega (arith, h.below, h.few)
+    let seat = sits c.args.n c.args.w c.args.i c.args.nodes.now c.args.versions.now c.args.board.now _ c.judge-refusal.ensures c.if-refusal-eq0.true in
+    omega (arith, seat.below, seat.few)
 
 pub bounds-board-at : goal.bounds-board-at
 bounds-board-at c =
-    let h = seated c.args.n c.args.w c.args.i c.args.nodes.now c.args.versions.now c.args.board.now (no_refusal _ _ c.judge-refusal.ensures c.if-refusal-eq0.true) in
-    omega (arith, h.below, h.seats)
+    let seat = sits c.args.n c.args.w c.args.i c.args.nodes.now c.args.versions.now c.args.board.now _ c.judge-refusal.ensures c.if-refusal-eq0.true in
+    omega (arith, seat.below, seat.seats)
 
 pub returns-then-refusal-eq0 : goal.returns-then-refusal-eq0
 returns-then-refusal-eq0 c =

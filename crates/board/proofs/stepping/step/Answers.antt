@@ -5,8 +5,8 @@ use Rattle.decibel.specs.Told.{refused}
 use Rattle.trie.specs.declared.Progress.{Progress}
 use Rattle.trie.specs.Values.{progress_of}
 use Rattle.trie.specs.Calls.{state, after}
-use Rattle.judging.proofs.JudgingLaws.{seated, step_seated, step_refused}
-use Rattle.board.proofs.Refusals.{no_refusal, some_refusal}
+use Rattle.judging.proofs.JudgingLaws.{step_seated, step_refused}
+use Rattle.board.proofs.Refusals.{no_refusal, some_refusal, sits}
 use Rattle.board.proofs.stepping.step.Goals as goal
 
 pub returns-then-refusal-ne0 : goal.returns-then-refusal-ne0
@@ -17,8 +17,8 @@ returns-then-refusal-ne0 c =
 
 pub turn-requires : goal.turn-requires
 turn-requires c =
-    let h = seated c.args.n c.args.w c.args.i c.args.nodes.now c.args.versions.now c.args.board.now (no_refusal _ _ c.judge-refusal.ensures c.if-refusal-ne0.false) in
-    omega (arith, h.below, h.seats)
+    let seat = sits c.args.n c.args.w c.args.i c.args.nodes.now c.args.versions.now c.args.board.now _ c.judge-refusal.ensures c.if-refusal-ne0.false in
+    omega (arith, seat.below, seat.seats)
 
 pub returns : goal.returns
 returns c =

@@ -1,4 +1,5 @@
--- What the loop of `opening/rest` keeps, and how it ends.
+-- What the loop of `rest` keeps: the words of the first i workers say idle records, and the board is as long as it was.
+-- Assumes nothing.
 use mathlib.Core.Path.{◌≡◌}
 use Prim.Native.Nat.{◌-◌, ◌≤◌}
 use lib.ListN.{length}

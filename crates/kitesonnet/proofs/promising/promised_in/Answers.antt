@@ -19,11 +19,18 @@ record_at-requires c = omega (arith, c.requires.2, c.loop-i.invariant.0, c.loop-
 
 pub join-sum-requires : goal.join-sum-requires
 join-sum-requires c =
-    (owed_small c.args.share c.record_at.result c.owed_in.result c.owed_in.ensures c.requires.0, promised_small c.args.share (c.args.w - c.loop-i.i) (drop (record_words * c.loop-i.i) c.args.board.now) c.loop-i.sum c.loop-i.invariant.1 c.requires.0 (omega (arith, c.requires.1)))
+    let i = c.loop-i.i in (
+      owed_small c.args.share c.record_at.result c.owed_in.result c.owed_in.ensures c.requires.0,
+      promised_small c.args.share (c.args.w - i) (drop (record_words * i) c.args.board.now) c.loop-i.sum c.loop-i.invariant.1 c.requires.0 (omega (arith, c.requires.1)),
+    )
 
 pub loop-i-preserved : goal.loop-i-preserved
 loop-i-preserved c =
-    (search rules, c.join-sum.ensures ∙ promised_on c.args.share c.args.w c.loop-i.i c.args.board.now c.owed_in.result c.loop-i.sum c.loop-i-test.true c.loop-i.invariant.0 (c.owed_in.ensures ∙ ap (owed_in c.args.share) c.record_at.ensures) c.loop-i.invariant.1)
+    let owed = c.owed_in.ensures ∙ ap (owed_in c.args.share) c.record_at.ensures in (
+      search rules,
+      c.join-sum.ensures
+          ∙ promised_on c.args.share c.args.w c.loop-i.i c.args.board.now c.owed_in.result c.loop-i.sum c.loop-i-test.true c.loop-i.invariant.0 owed c.loop-i.invariant.1,
+    )
 
 pub returns : goal.returns
 returns c =

@@ -1,4 +1,5 @@
--- What the loop of `promising/promised_in` keeps, and how it ends.
+-- What the loop of `promised_in` keeps: it goes from the last worker back, and the workers from i on are summed.
+-- Assumes nothing.
 use mathlib.Core.Path.{◌≡◌}
 use Prim.Native.Nat.{◌*◌, ◌-◌, ◌≤◌}
 use lib.ListN.{drop}

@@ -1,4 +1,5 @@
--- What the loop of `reading/is_bare` keeps, and how it ends.
+-- What the loop of `is_bare` keeps: the words before i are 0, so that those from i on decide.
+-- Assumes nothing.
 use mathlib.Core.Path.{◌≡◌}
 use Prim.Native.Nat.{◌-◌}
 use lib.ListN.{length}

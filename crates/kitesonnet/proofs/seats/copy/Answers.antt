@@ -13,7 +13,12 @@ loop-i-init c = (search rules, search rules, paste-zero c.args.table.now 0 c.arg
 
 pub loop-i-preserved : goal.loop-i-preserved
 loop-i-preserved c =
-    (search rules, simp length-set c.loop-i.invariant.1, ap (λ t. set t c.loop-i.i (get_or c.args.words.now c.loop-i.i 0)) c.loop-i.invariant.2 ∙ copy_first c.args.table.now c.args.words.now c.loop-i.i (omega (arith, c.requires, c.loop-i-test.true)) c.loop-i-test.true)
+    let i = c.loop-i.i in (
+      search rules,
+      simp length-set c.loop-i.invariant.1,
+      ap (λ t. set t i (get_or c.args.words.now i 0)) c.loop-i.invariant.2
+          ∙ copy_first c.args.table.now c.args.words.now i (omega (arith, c.requires, c.loop-i-test.true)) c.loop-i-test.true,
+    )
 
 pub returns : goal.returns
 returns c = let e : c.loop-i.i ≡ length c.args.words.now = omega arith in rw (← e) c.loop-i.invariant.2

@@ -1,4 +1,5 @@
--- What the loop of `seats/copy` keeps, and how it ends.
+-- What the loop of `copy` keeps: the first i words are copied, and the table is as long as it was.
+-- Assumes nothing.
 use mathlib.Core.Path.{◌≡◌}
 use Prim.Native.Nat.{◌≤◌, ◌-◌}
 use lib.ListN.{length}

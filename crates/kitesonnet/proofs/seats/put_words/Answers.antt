@@ -20,7 +20,13 @@ bounds-board-at c = omega (arith, c.requires, c.loop-i-test.true, c.loop-i.invar
 
 pub loop-i-preserved : goal.loop-i-preserved
 loop-i-preserved c =
-    (search rules, c.loop-i.invariant.1, simp length-set c.loop-i.invariant.2, ap (λ t. set t (c.args.at + c.loop-i.i) (get_or c.args.words c.loop-i.i 0)) c.loop-i.invariant.3 ∙ copy_next c.args.board.now c.args.at c.args.words c.loop-i.i (omega (arith, c.requires, c.loop-i-test.true)) (omega (arith, c.loop-i.invariant.1, c.loop-i-test.true)))
+    let i = c.loop-i.i in (
+      search rules,
+      c.loop-i.invariant.1,
+      simp length-set c.loop-i.invariant.2,
+      ap (λ t. set t (c.args.at + i) (get_or c.args.words i 0)) c.loop-i.invariant.3
+          ∙ copy_next c.args.board.now c.args.at c.args.words i (omega (arith, c.requires, c.loop-i-test.true)) (omega (arith, c.loop-i.invariant.1, c.loop-i-test.true)),
+    )
 
 pub returns : goal.returns
 returns c =

@@ -1,4 +1,5 @@
--- What the loop of `seats/put_words` keeps, and how it ends.
+-- What the loop of `put_words` keeps: the first i words stand in their places, and the board is as long as it was.
+-- Assumes nothing.
 use mathlib.Core.Path.{◌≡◌}
 use Prim.Native.Nat.{◌-◌, ◌≤◌}
 use lib.ListN.{length}

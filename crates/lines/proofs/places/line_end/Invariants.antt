@@ -1,4 +1,5 @@
--- What the loop of `places/line_end` keeps, and how it ends.
+-- What the loop of `line_end` keeps: no newline stands from the line's first byte to i.
+-- Assumes nothing.
 use mathlib.Core.Path.{◌≡◌}
 use mathlib.Core.Bool.{true}
 use Prim.Native.Nat.{◌≤◌, ◌-◌}

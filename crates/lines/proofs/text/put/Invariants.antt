@@ -1,4 +1,5 @@
--- What the loop of `text/put` keeps, and how it ends.
+-- What the loop of `put` keeps: the first i bytes of the text stand in the buffer, which is as long as it was.
+-- Assumes nothing.
 use mathlib.Core.Path.{◌≡◌}
 use Prim.Native.Nat.{◌≤◌, ◌-◌}
 use lib.ListN.{length}

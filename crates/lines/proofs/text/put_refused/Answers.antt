@@ -6,4 +6,8 @@ use Rattle.lines.proofs.text.put_refused.Goals as goal
 
 pub returns : goal.returns
 returns c =
-    record { put = put_as _ _ _ _ _ _ (refused_text_lem c.args.number) (put_both _ _ _ _ _ _ _ _ (omega (arith, c.requires, c.spell-a.ensures.put.ends, c.spell-a.ensures.upper_bound)) c.spell-a.ensures.put c.put.ensures); upper_bound = omega (arith, c.spell-a.ensures.upper_bound, c.put.ensures.ends) }
+    let spelled = c.spell-a.ensures in
+    record {
+      put = put_as _ _ _ _ _ _ (refused_text_lem c.args.number) (put_both _ _ _ _ _ _ _ _ (omega (arith, c.requires, spelled.put.ends, spelled.upper_bound)) spelled.put c.put.ensures);
+      upper_bound = omega (arith, spelled.upper_bound, c.put.ensures.ends);
+    }

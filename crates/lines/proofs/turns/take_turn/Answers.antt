@@ -1,19 +1,19 @@
 -- A line is taken by the call that it makes: a start and an open are lent the words of V versions, which the version table has, and a refusal nothing.
 -- Assumes nothing.
-use Rattle.std.proofs.Common.{◌++◌, ◌∙◌, ℕ, sym, ap, arith, take, drop, eq-eqb, ne_eqb, length-take-le}
+use Rattle.std.proofs.Common.{◌++◌, ◌∙◌, ℕ, sym, ap, take, drop, eq-eqb, ne_eqb, length-take-le}
 use Rattle.trie.specs.declared.Accepted.{Accepted}
 use Rattle.trie.specs.Values.{accepted_of}
 use Rattle.trie.specs.Calls.{after, state, start_of, open_of}
 use Rattle.lines.specs.declared.Reply.{Reply}
 use Rattle.lines.specs.Turns.{turned}
-use Rattle.lines.proofs.Taken.{words_most, start_taken, open_taken, refused_taken}
+use Rattle.lines.proofs.Taken.{lent_few, start_taken, open_taken, refused_taken}
 use Rattle.lines.proofs.turns.take_turn.Goals as goal
 
 pub slice_bounds-start-end : goal.slice_bounds-start-end
-slice_bounds-start-end c = omega (arith, c.words_of-lent.ensures, words_most _ _ _ c.call_of-call.ensures, c.requires.0.versions_long)
+slice_bounds-start-end c = lent_few _ _ _ _ _ _ c.call_of-call.ensures c.words_of-lent.ensures c.requires.0
 
 pub slice_bounds-start-end-then-kind-eq2 : goal.slice_bounds-start-end-then-kind-eq2
-slice_bounds-start-end-then-kind-eq2 c = sym (length-take-le _ _ (omega (arith, c.words_of-lent.ensures, words_most _ _ _ c.call_of-call.ensures, c.requires.0.versions_long)))
+slice_bounds-start-end-then-kind-eq2 c = sym (length-take-le _ _ (lent_few _ _ _ _ _ _ c.call_of-call.ensures c.words_of-lent.ensures c.requires.0))
 
 pub returns-then-kind-eq2 : goal.returns-then-kind-eq2
 returns-then-kind-eq2 c =
@@ -27,10 +27,10 @@ returns-then-kind-eq2 c =
     c.accepted_turn.ensures
 
 pub slice_bounds-open-end : goal.slice_bounds-open-end
-slice_bounds-open-end c = omega (arith, c.words_of-lent.ensures, words_most _ _ _ c.call_of-call.ensures, c.requires.0.versions_long)
+slice_bounds-open-end c = lent_few _ _ _ _ _ _ c.call_of-call.ensures c.words_of-lent.ensures c.requires.0
 
 pub slice_bounds-open-end-then-kind-eq3 : goal.slice_bounds-open-end-then-kind-eq3
-slice_bounds-open-end-then-kind-eq3 c = sym (length-take-le _ _ (omega (arith, c.words_of-lent.ensures, words_most _ _ _ c.call_of-call.ensures, c.requires.0.versions_long)))
+slice_bounds-open-end-then-kind-eq3 c = sym (length-take-le _ _ (lent_few _ _ _ _ _ _ c.call_of-call.ensures c.words_of-lent.ensures c.requires.0))
 
 pub returns-then-kind-eq3 : goal.returns-then-kind-eq3
 returns-then-kind-eq3 c =

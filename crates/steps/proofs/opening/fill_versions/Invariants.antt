@@ -1,4 +1,5 @@
--- What the loop of `opening/fill_versions` keeps, and how it ends.
+-- What the loop of `fill_versions` keeps: the first i words are filled.
+-- Assumes nothing.
 use mathlib.Core.Path.{◌≡◌}
 use Prim.Native.Nat.{◌*◌, ◌-◌, ◌≤◌}
 use Rattle.trie.specs.Opening.{filled, first_word}
