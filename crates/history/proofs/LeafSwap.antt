@@ -42,10 +42,14 @@ module _ (h : ℕ) (weight : ℕ → ℕ) where
           kids (some l) hi = omega arith
 
       spot_leaf : (y : Node) → SpotOk h weight (leaf_swap h weight G o) y (at (leaf_swap h weight G o) y)
-      spot_leaf = put_all Node-discrete (λ y a. SpotOk h weight (leaf_swap h weight G o) y a) G.spot (cell h o) _
-          (leaf_spot h weight G cl sp grow_leaf (cell h o) swapped (suc G.used) [] (length_leaf h (cell_of o.update)) (swapped_cells h weight G cl sp o v ok kn e) (swapped_ok h weight G cl sp o v ok kn e) (le_refl (suc G.used))
-          (depicts_leaf h weight _ (cell h o) (suc G.used) _ (want o.update) (omega arith) (length_leaf h (cell_of o.update)) (put_same ℕ_discrete G.ver (suc G.used) _) (view_leaf h weight G cl sp (cell h o) swapped (places h weight G cl sp (cell h o) swapped (swapped_known h weight G cl sp o v ok kn e) (swapped_cells h weight G cl sp o v ok kn e)) ∙ swapped_run h weight G cl sp o v ok kn e)) all_nil
-          (swapped_known h weight G cl sp o v ok kn e)
+      spot_leaf =
+          let long = length_leaf h (cell_of o.update) in
+          let cells = swapped_cells h weight G cl sp o v ok kn e in
+          let known = swapped_known h weight G cl sp o v ok kn e in
+          let seen = view_leaf h weight G cl sp (cell h o) swapped (places h weight G cl sp (cell h o) swapped known cells) ∙ swapped_run h weight G cl sp o v ok kn e in
+          put_all Node-discrete (λ y a. SpotOk h weight (leaf_swap h weight G o) y a) G.spot (cell h o) _
+          (leaf_spot h weight G cl sp grow_leaf (cell h o) swapped (suc G.used) [] long cells (swapped_ok h weight G cl sp o v ok kn e) (le_refl (suc G.used))
+          (depicts_leaf h weight _ (cell h o) (suc G.used) _ (want o.update) (omega arith) long (put_same ℕ_discrete G.ver (suc G.used) _) seen) all_nil known
           (dist_cons (all_refused (none_others o.id (at G (cell h o)).waiting)) (distinct_others o.id (sp (cell h o)).once_waiting))
           (all_cons (all_at (sp (cell h o)).able (ok.waits e)).3 (all_refused (all_others o.id (all_map (λ q p. p.3) (sp (cell h o)).able)))) ops_nil)
           (λ y n. spot_grow h weight grow_leaf y (at G y) (sp y))
