@@ -1,6 +1,6 @@
 -- What crates above may use of an energy: it keeps document 01's rule, nothing else does, and it is at most 10 ^ 9.
 -- Assumes nothing.
-use Rattle.std.specs.Prelude.{◌≡◌, refl, Bool, true, false, ℕ, zero, suc, ◌+◌, ◌^◌, ◌≤◌, ◌<◌, leb}
+use Rattle.std.specs.Prelude.{◌≡◌, refl, Bool, true, false, ℕ, zero, suc, ◌+◌, ◌^◌, ◌≤◌, ◌<◌, leb, Result, Ok, Err}
 use Rattle.std.proofs.Common.{sym, ap, ◌∙◌, subst, pow-suc, lt_of_not-le, not-le_of_lt, le_trans, lt_of_le_of_lt, le_of_suc-le-suc, zero-lt-suc, le_antisymm, arith, leb-true, leb-false, le-leb, lit<}
 use Rattle.std.proofs.Math.Nat.{pow-le-pow_left, pow-le-pow_right}
 use Rattle.std.proofs.lemmas.Bool.{lt-leb}
@@ -8,8 +8,8 @@ use Rattle.decibel.specs.Told.{refused, gives}
 use Rattle.decibel.specs.Energy.{Rule, grown, tenth_root, energy_of}
 use Rattle.decibel.specs.Conversion.{loudest, convert_of}
 use Rattle.decibel.specs.Answer.{told_of}
-use Rattle.decibel.specs.declared.Converted.{Converted}
-use Rattle.decibel.specs.declared.Converted.TheVariants.{TooLoud, Is}
+use Rattle.decibel.specs.declared.Energy.{Energy}
+use Rattle.decibel.specs.declared.TooLoud.{TooLoud}
 
 -- t is the whole part of n's tenth root
 pub record Root (n t : ℕ) : Type 0 where
@@ -67,11 +67,11 @@ unfolding convert_of
 refuses level h = rw (lt-leb level loudest h)
 
 -- an answer is known by what it tells: the contract leaves one answer for each level
-pub told_one : (a b : Converted) → told_of a ≡ told_of b → a ≡ b
-told_one TooLoud TooLoud e = refl
-told_one TooLoud (Is y) e = absurd (let z : ◌≡◌ {A = ℕ} 0 1 = cc in omega arith)
-told_one (Is x) TooLoud e = absurd (let z : ◌≡◌ {A = ℕ} 0 1 = cc in omega arith)
-told_one (Is x) (Is y) e = let z : x.0 ≡ y.0 = cc in ap (λ (n : ℕ). Is (record { 0 = n })) z
+pub told_one : (a b : Result Energy TooLoud) → told_of a ≡ told_of b → a ≡ b
+told_one (Err l) (Err m) e = refl
+told_one (Err l) (Ok y) e = absurd (let z : ◌≡◌ {A = ℕ} 0 1 = cc in omega arith)
+told_one (Ok x) (Err m) e = absurd (let z : ◌≡◌ {A = ℕ} 0 1 = cc in omega arith)
+told_one (Ok x) (Ok y) e = let z : x.0 ≡ y.0 = cc in ap (λ (n : ℕ). Ok (record { 0 = n })) z
 
-pub convert_decided : (level : ℕ) (a b : Converted) → told_of a ≡ convert_of level → told_of b ≡ convert_of level → a ≡ b
+pub convert_decided : (level : ℕ) (a b : Result Energy TooLoud) → told_of a ≡ convert_of level → told_of b ≡ convert_of level → a ≡ b
 convert_decided level a b p q = told_one a b (p ∙ sym q)

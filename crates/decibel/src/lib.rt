@@ -14,11 +14,9 @@ pub struct Level(pub u64);
 #[derive(Clone, Copy)]
 pub struct Energy(pub u64);
 
-#[derive(Clone, Copy)]
-pub enum Converted {
-    TooLoud,
-    Is(Energy),
-}
+// A level above the highest has no energy.
+#[derive(Clone, Copy, Debug, PartialEq, Eq)]
+pub struct TooLoud;
 
 // The highest level that a sounder gives, and the energy of a cell at it, which no cell passes.
 pub const LOUDEST: u64 = 60;
@@ -35,13 +33,13 @@ const ENERGIES: [u64; 61] = [
 ];
 
 // The energy of a level from 0 to 60; any other level is refused with 7.
-pub fn convert(level: Level) -> Converted
+pub fn convert(level: Level) -> Result<Energy, TooLoud>
     ensures { told_of result ≡ convert_of level.0 }
 {
     let decibels = level.0;
     if LOUDEST < decibels {
-        return Converted::TooLoud;
+        return Err(TooLoud);
     }
     let at = decibels as usize;
-    Converted::Is(Energy(ENERGIES[at]))
+    Ok(Energy(ENERGIES[at]))
 }

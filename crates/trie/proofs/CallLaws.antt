@@ -1,12 +1,12 @@
 -- What the three calls leave of all that is lent: a refused one leaves everything, and an accepted one changes what document 01 lets it change.
 -- Assumes nothing.
-use Rattle.std.specs.Prelude.{◌≡◌, refl, ◌≢◌, Bool, true, false, not, ◌&&◌, List, ℕ, ◌+◌, ◌<◌, ◌≤◌, ltb, leb, length, get_or, set}
+use Rattle.std.specs.Prelude.{◌≡◌, refl, ◌≢◌, Bool, true, false, not, ◌&&◌, List, ℕ, ◌+◌, ◌<◌, ◌≤◌, ltb, leb, length, get_or, set, Result}
 use Rattle.std.proofs.Common.{sym, ap, ◌∙◌, arith, leb-true, ltb-true, lt-ltb, le-ltb, length-set, get_or-set_other}
 use Rattle.std.proofs.lemmas.List.{set-get_or}
 use Rattle.decibel.specs.Told.{refused, gives}
 use Rattle.trie.specs.declared.Operation.{Operation}
 use Rattle.trie.specs.declared.Bounds.{Bounds}
-use Rattle.trie.specs.declared.Promised.{Promised}
+use Rattle.trie.specs.declared.Damage.{Damage}
 use Rattle.trie.specs.declared.Worker.{Worker}
 use Rattle.trie.specs.Size.{allowed, most_workers}
 use Rattle.trie.proofs.SizeLaws.{and_second}
@@ -33,11 +33,11 @@ module _ (w : Worker) (k : ℕ) where
   shared_refused b (Operation.Update u) promised e = record_refused (leb (b.used + promised + b.share) b.room) 8 (records (Operation.Update u)) (λ e. gives_not e) e
   shared_refused b (Operation.Query q) promised e = gives_not e
 
-  granted_refused : (b : Bounds) (o : Operation) (promised : Promised) → (granted b o promised w).told ≡ refused k → (granted b o promised w).worker ≡ w
-  granted_refused b o Promised.Damaged e = refl
-  granted_refused b o (Promised.Of promised) e = record_refused (used_sound b) 9 (shared b o promised w) (shared_refused b o promised) e
+  granted_refused : (b : Bounds) (o : Operation) (promised : Result ℕ Damage) → (granted b o promised w).told ≡ refused k → (granted b o promised w).worker ≡ w
+  granted_refused b o (Result.Err d) e = refl
+  granted_refused b o (Result.Ok promised) e = record_refused (used_sound b) 9 (shared b o promised w) (shared_refused b o promised) e
 
-  pub start_refused : (n : ℕ) (o : Operation) (promised : Promised) (nodes versions : List ℕ) → (start_record_of n o promised w nodes versions).told ≡ refused k
+  pub start_refused : (n : ℕ) (o : Operation) (promised : Result ℕ Damage) (nodes versions : List ℕ) → (start_record_of n o promised w nodes versions).told ≡ refused k
       → (start_record_of n o promised w nodes versions).worker ≡ w
   unfolding start_record_of
   start_refused n o promised nodes versions =

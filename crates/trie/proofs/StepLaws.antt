@@ -1,6 +1,6 @@
 -- What a step of one record changes and what it leaves; and a refused one leaves everything.
 -- Assumes nothing.
-use Rattle.std.specs.Prelude.{◌≡◌, refl, ◌≢◌, Bool, true, false, List, [], ◌∷◌, ℕ, ◌+◌, ◌<◌, ◌≤◌, ltb, length, get_or, set}
+use Rattle.std.specs.Prelude.{◌≡◌, refl, ◌≢◌, Bool, true, false, List, [], ◌∷◌, ℕ, ◌+◌, ◌<◌, ◌≤◌, ltb, length, get_or, set, Result}
 use Rattle.std.proofs.Common.{ap, ◌∙◌, subst, arith, ltb-true, length-set, get_or-set_same, get_or-set_other, lt-length-set}
 use Rattle.decibel.specs.Told.{Told, refused, gives}
 use Rattle.trie.specs.declared.VersionNumber.{VersionNumber}
@@ -14,7 +14,8 @@ use Rattle.trie.specs.declared.Phase.{Phase}
 use Rattle.trie.specs.declared.Worker.{Worker}
 use Rattle.trie.specs.declared.Next.{Next}
 use Rattle.trie.specs.declared.Plan.{Plan}
-use Rattle.trie.specs.declared.Seen.{Seen}
+use Rattle.trie.specs.declared.Fork.{Fork}
+use Rattle.trie.specs.declared.Damage.{Damage}
 use Rattle.trie.specs.Choice.{pick}
 use Rattle.trie.specs.Size.{allowed}
 use Rattle.trie.specs.Tables.{used_of, version_at, version_put, roomy}
@@ -40,38 +41,38 @@ swaps_at b (Phase.Rank k s c e) = 0
 swaps_at b (Phase.Select j s x c) = 0
 
 -- the version that is put has the next number, there is room for it, and it is put at node x
-pub data Puts (b : Bounds) (x : ℕ) : Plan → Type 0 where
-  damaged : Puts b x Plan.Damaged
-  keeps : {next : Next} → Puts b x (Plan.Keep next)
-  puts : {v : VersionNumber} {y : NodeNumber} {r : Version} {next : Next} → v.0 ≡ b.used + 1 → y.0 ≡ x → b.used < b.room → Puts b x (Plan.Put next v y r)
+pub data Puts (b : Bounds) (x : ℕ) : Result Plan Damage → Type 0 where
+  damaged : {d : Damage} → Puts b x (Result.Err d)
+  keeps : {next : Next} → Puts b x (Result.Ok (Plan.Keep next))
+  puts : {v : VersionNumber} {y : NodeNumber} {r : Version} {next : Next} → v.0 ≡ b.used + 1 → y.0 ≡ x → b.used < b.room → Puts b x (Result.Ok (Plan.Put next v y r))
 
 module _ (b : Bounds) (x : ℕ) where
-  sure_puts : (t : Bool) (p : Plan) → Puts b x p → Puts b x (sure t p)
+  sure_puts : (t : Bool) (p : Result Plan Damage) → Puts b x p → Puts b x (sure t p)
   sure_puts true p h = h
   sure_puts false p h = damaged
 
-  pick_puts : (t : Bool) (p q : Plan) → Puts b x p → Puts b x q → Puts b x (pick t p q)
+  pick_puts : (t : Bool) (p q : Result Plan Damage) → Puts b x p → Puts b x q → Puts b x (pick t p q)
   pick_puts true p q h k = h
   pick_puts false p q h k = k
 
   swapped_puts : (r : Version) (next : Next) → Puts b x (swapped b x r next)
   swapped_puts r next = by (ltb b.used b.room) refl
     where
-      by : (t : Bool) → ltb b.used b.room ≡ t → Puts b x (sure t (Plan.Put next (record { 0 = b.used + 1 }) (record { 0 = x }) r))
+      by : (t : Bool) → ltb b.used b.room ≡ t → Puts b x (sure t (Result.Ok (Plan.Put next (record { 0 = b.used + 1 }) (record { 0 = x }) r)))
       by true e = puts refl refl (ltb-true b.used b.room e)
       by false e = damaged
 
-  find_puts : (k d : ℕ) (right : Bool) (s : Seen) → Puts b x (find_seen k d right s)
-  find_puts k d right Seen.Unsound = damaged
-  find_puts k d right (Seen.Sound f) = search (pick_puts, keeps)
+  find_puts : (k d : ℕ) (right : Bool) (s : Result Fork Damage) → Puts b x (find_seen k d right s)
+  find_puts k d right (Result.Err e) = damaged
+  find_puts k d right (Result.Ok f) = search (pick_puts, keeps)
 
-  rank_puts : (k d : ℕ) (right : Bool) (count energy : ℕ) (s : Seen) → Puts b x (rank_seen b k d right count energy s)
-  rank_puts k d right count energy Seen.Unsound = damaged
-  rank_puts k d right count energy (Seen.Sound f) = search (sure_puts, pick_puts, keeps)
+  rank_puts : (k d : ℕ) (right : Bool) (count energy : ℕ) (s : Result Fork Damage) → Puts b x (rank_seen b k d right count energy s)
+  rank_puts k d right count energy (Result.Err e) = damaged
+  rank_puts k d right count energy (Result.Ok f) = search (sure_puts, pick_puts, keeps)
 
-  select_puts : (j d y passed : ℕ) (s : Seen) → Puts b x (select_seen b j d y passed s)
-  select_puts j d y passed Seen.Unsound = damaged
-  select_puts j d y passed (Seen.Sound f) = search (sure_puts, pick_puts, keeps)
+  select_puts : (j d y passed : ℕ) (s : Result Fork Damage) → Puts b x (select_seen b j d y passed s)
+  select_puts j d y passed (Result.Err e) = damaged
+  select_puts j d y passed (Result.Ok f) = search (sure_puts, pick_puts, keeps)
 
   first_puts : (q : Query) (v : VersionNumber) (r : Version) → Puts b x (first_of q v r)
   first_puts (Query.Find k) v r = keeps
@@ -138,7 +139,7 @@ next_leaves : (next : Next) (nodes versions : List ℕ) (x : ℕ) (nodes' versio
 next_leaves (Next.On w) nodes versions x nodes' versions' h = h
 next_leaves (Next.Done a) nodes versions x nodes' versions' h = h
 
-pub carry_leaves : (b : Bounds) (x : ℕ) (p : Plan) (w : Worker) (nodes versions : List ℕ) → b.used ≡ used_of nodes → Puts b x p
+pub carry_leaves : (b : Bounds) (x : ℕ) (p : Result Plan Damage) (w : Worker) (nodes versions : List ℕ) → b.used ≡ used_of nodes → Puts b x p
     → Leaves nodes versions x (carry_of p w nodes versions).nodes (carry_of p w nodes versions).versions
 unfolding carry_of
 carry_leaves b x p w nodes versions e damaged = leaves_all nodes versions x
@@ -176,13 +177,13 @@ check_refused : (t : Bool) (number : ℕ) (w : Worker) (nodes versions : List �
 check_refused true number w nodes versions s k h e = h e
 check_refused false number w nodes versions s k h e = ap (λ (m : ℕ). refuses m w nodes versions) (cc)
 
-carry_refused : (p : Plan) (w : Worker) (nodes versions : List ℕ) (k : ℕ) → (carry_of p w nodes versions).told ≡ refused k → carry_of p w nodes versions ≡ refuses k w nodes versions
+carry_refused : (p : Result Plan Damage) (w : Worker) (nodes versions : List ℕ) (k : ℕ) → (carry_of p w nodes versions).told ≡ refused k → carry_of p w nodes versions ≡ refuses k w nodes versions
 unfolding carry_of
-carry_refused Plan.Damaged w nodes versions k e = ap (λ (m : ℕ). refuses m w nodes versions) (cc)
-carry_refused (Plan.Keep (Next.On w')) w nodes versions k e = gives_not e
-carry_refused (Plan.Keep (Next.Done a)) w nodes versions k e = gives_not e
-carry_refused (Plan.Put (Next.On w') v x r) w nodes versions k e = gives_not e
-carry_refused (Plan.Put (Next.Done a) v x r) w nodes versions k e = gives_not e
+carry_refused (Result.Err d) w nodes versions k e = ap (λ (m : ℕ). refuses m w nodes versions) (cc)
+carry_refused (Result.Ok (Plan.Keep (Next.On w'))) w nodes versions k e = gives_not e
+carry_refused (Result.Ok (Plan.Keep (Next.Done a))) w nodes versions k e = gives_not e
+carry_refused (Result.Ok (Plan.Put (Next.On w') v x r)) w nodes versions k e = gives_not e
+carry_refused (Result.Ok (Plan.Put (Next.Done a) v x r)) w nodes versions k e = gives_not e
 
 pub step_refused : (n : ℕ) (w : Worker) (nodes versions : List ℕ) (k : ℕ) → (step_record_of n w nodes versions).told ≡ refused k
     → step_record_of n w nodes versions ≡ refuses k w nodes versions

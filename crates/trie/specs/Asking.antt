@@ -1,6 +1,6 @@
 -- A query: its reading of the root, and its way down the versions, never through the node table.
 -- Document 01, "Steps": Queries. Assumes nothing.
-use Rattle.std.specs.Prelude.{Bool, true, false, ◌&&◌, List, ℕ, ◌+◌, ◌*◌, ◌-◌, ◌/◌, ◌%◌, ◌^◌, eqb, ltb, leb}
+use Rattle.std.specs.Prelude.{Bool, true, false, ◌&&◌, List, ℕ, ◌+◌, ◌*◌, ◌-◌, ◌/◌, ◌%◌, ◌^◌, eqb, ltb, leb, Result}
 use Rattle.decibel.specs.declared.Energy.{Energy}
 use Rattle.trie.specs.declared.NodeNumber.{NodeNumber}
 use Rattle.trie.specs.declared.VersionNumber.{VersionNumber}
@@ -11,32 +11,33 @@ use Rattle.trie.specs.declared.Phase.{Phase}
 use Rattle.trie.specs.declared.Answer.{Answer}
 use Rattle.trie.specs.declared.Next.{Next}
 use Rattle.trie.specs.declared.Plan.{Plan}
+use Rattle.trie.specs.declared.Damage.{Damage}
 use Rattle.trie.specs.declared.Bounds.{Bounds}
 use Rattle.trie.specs.declared.Fork.{Fork}
-use Rattle.trie.specs.declared.Seen.{Seen}
 use Rattle.trie.specs.Choice.{pick}
+use Rattle.trie.specs.Refusing.{damaged}
 use Rattle.trie.specs.Tables.{current_of, version_at}
 use Rattle.trie.specs.Sound.{sound_in}
 use Rattle.trie.specs.Record.{query_fits}
-use Rattle.trie.specs.Leaf.{sure, goes_on, marked}
+use Rattle.trie.specs.Leaf.{sure, keep, goes_on, marked}
 
 abbrev pub standing : ℕ → VersionNumber → Standing
 standing depth v = record { depth = depth; version = v }
 
-abbrev pub answers : Answer → Plan
-answers a = Plan.Keep (Next.Done a)
+abbrev pub answers : Answer → Result Plan Damage
+answers a = keep (Next.Done a)
 
 abbrev pub sums_of : ℕ → ℕ → Answer
 sums_of count energy = Answer.Sums count (record { 0 = energy })
 
 -- step 1, with the root's version in hand
-abbrev pub first_of : Query → VersionNumber → Version → Plan
-first_of (Query.Find k) v r = Plan.Keep (goes_on (Phase.Find k (standing 0 v)))
-first_of (Query.Select j) v r = pick (ltb r.count j) (answers Answer.None) (Plan.Keep (goes_on (Phase.Select j (standing 0 v) (record { 0 = 1 }) 0)))
-first_of (Query.Rank k) v r = Plan.Keep (goes_on (Phase.Rank k (standing 0 v) 0 (record { 0 = 0 })))
+abbrev pub first_of : Query → VersionNumber → Version → Result Plan Damage
+first_of (Query.Find k) v r = keep (goes_on (Phase.Find k (standing 0 v)))
+first_of (Query.Select j) v r = pick (ltb r.count j) (answers Answer.None) (keep (goes_on (Phase.Select j (standing 0 v) (record { 0 = 1 }) 0)))
+first_of (Query.Rank k) v r = keep (goes_on (Phase.Rank k (standing 0 v) 0 (record { 0 = 0 })))
 first_of Query.Total v r = answers (sums_of r.count r.energy.0)
 
-unfoldable pub ask_of : Bounds → Query → List ℕ → List ℕ → Plan
+unfoldable pub ask_of : Bounds → Query → List ℕ → List ℕ → Result Plan Damage
 ask_of b q nodes versions =
     sure (query_fits b.cells q)
     (sure (sound_in b false versions (current_of nodes 1)) (first_of q (current_of nodes 1) (version_at versions (current_of nodes 1))))
@@ -55,12 +56,12 @@ fork_of b s versions r =
       last = last_at b s.depth;
     }
 
-abbrev pub seen : Bool → Fork → Seen
-seen true f = Seen.Sound f
-seen false f = Seen.Unsound
+abbrev pub seen : Bool → Fork → Result Fork Damage
+seen true f = Result.Ok f
+seen false f = damaged
 
 -- a further step reads the version where the query stands and both its children, and judges all three
-unfoldable pub look_of : Bounds → Standing → List ℕ → Seen
+unfoldable pub look_of : Bounds → Standing → List ℕ → Result Fork Damage
 look_of b s versions =
     seen
     (ltb s.depth b.height
@@ -83,12 +84,12 @@ toward right f = pick right f.at_right f.at_left
 abbrev pub level_of : Version → Answer
 level_of r = pick (marked r) (Answer.Level r.level) Answer.None
 
-abbrev pub find_seen : ℕ → ℕ → Bool → Seen → Plan
-find_seen k d right Seen.Unsound = Plan.Damaged
-find_seen k d right (Seen.Sound f) =
-    pick f.last (answers (level_of (toward right f))) (Plan.Keep (goes_on (Phase.Find k (standing (d + 1) (towards right f)))))
+abbrev pub find_seen : ℕ → ℕ → Bool → Result Fork Damage → Result Plan Damage
+find_seen k d right (Result.Err e) = damaged
+find_seen k d right (Result.Ok f) =
+    pick f.last (answers (level_of (toward right f))) (keep (goes_on (Phase.Find k (standing (d + 1) (towards right f)))))
 
-unfoldable pub find_of : Bounds → ℕ → Standing → List ℕ → Plan
+unfoldable pub find_of : Bounds → ℕ → Standing → List ℕ → Result Plan Damage
 find_of b k s versions = sure (ltb k b.cells) (find_seen k s.depth (turns_right b k s.depth) (look_of b s versions))
 
 -- Rank: what is passed on the left is added, and at the last step the leaf that is reached
@@ -101,13 +102,13 @@ reached_of last leaf passed = pick last (passed + leaf) passed
 abbrev pub within : Bounds → ℕ → ℕ → Bool
 within b count energy = leb count b.cells && leb energy b.energy
 
-abbrev pub rank_next : ℕ → ℕ → VersionNumber → Bool → ℕ → ℕ → Plan
+abbrev pub rank_next : ℕ → ℕ → VersionNumber → Bool → ℕ → ℕ → Result Plan Damage
 rank_next k d v last count energy =
-    pick last (answers (sums_of count energy)) (Plan.Keep (goes_on (Phase.Rank k (standing (d + 1) v) count (record { 0 = energy }))))
+    pick last (answers (sums_of count energy)) (keep (goes_on (Phase.Rank k (standing (d + 1) v) count (record { 0 = energy }))))
 
-abbrev pub rank_seen : Bounds → ℕ → ℕ → Bool → ℕ → ℕ → Seen → Plan
-rank_seen b k d right count energy Seen.Unsound = Plan.Damaged
-rank_seen b k d right count energy (Seen.Sound f) =
+abbrev pub rank_seen : Bounds → ℕ → ℕ → Bool → ℕ → ℕ → Result Fork Damage → Result Plan Damage
+rank_seen b k d right count energy (Result.Err e) = damaged
+rank_seen b k d right count energy (Result.Ok f) =
     sure (within b
     (reached_of f.last (toward right f).count (passed_of right f.at_left.count count))
     (reached_of f.last (toward right f).energy.0 (passed_of right f.at_left.energy.0 energy)))
@@ -115,25 +116,25 @@ rank_seen b k d right count energy (Seen.Sound f) =
     (reached_of f.last (toward right f).count (passed_of right f.at_left.count count))
     (reached_of f.last (toward right f).energy.0 (passed_of right f.at_left.energy.0 energy)))
 
-unfoldable pub rank_of : Bounds → ℕ → Standing → ℕ → Energy → List ℕ → Plan
+unfoldable pub rank_of : Bounds → ℕ → Standing → ℕ → Energy → List ℕ → Result Plan Damage
 rank_of b k s count energy versions =
     sure (ltb k b.cells && within b count energy.0)
     (rank_seen b k s.depth (turns_right b k s.depth) count energy.0 (look_of b s versions))
 
 -- Select: left where the left count is at least what is still to be passed; else right, and the left count is passed
-abbrev pub select_next : Bounds → ℕ → ℕ → ℕ → ℕ → VersionNumber → Bool → Plan
+abbrev pub select_next : Bounds → ℕ → ℕ → ℕ → ℕ → VersionNumber → Bool → Result Plan Damage
 select_next b j d x passed v last =
-    pick last (answers (Answer.Cell (x - b.cells))) (Plan.Keep (goes_on (Phase.Select j (standing (d + 1) v) (record { 0 = x }) passed)))
+    pick last (answers (Answer.Cell (x - b.cells))) (keep (goes_on (Phase.Select j (standing (d + 1) v) (record { 0 = x }) passed)))
 
 -- the sum is judged also at the last step, where it is neither stored nor answered
-abbrev pub select_right : Bounds → ℕ → ℕ → ℕ → ℕ → Fork → Plan
+abbrev pub select_right : Bounds → ℕ → ℕ → ℕ → ℕ → Fork → Result Plan Damage
 select_right b j d x passed f =
     sure (leb (passed + f.at_left.count) b.cells)
     (select_next b j d x (passed + f.at_left.count) f.right f.last)
 
-abbrev pub select_seen : Bounds → ℕ → ℕ → ℕ → ℕ → Seen → Plan
-select_seen b j d x passed Seen.Unsound = Plan.Damaged
-select_seen b j d x passed (Seen.Sound f) =
+abbrev pub select_seen : Bounds → ℕ → ℕ → ℕ → ℕ → Result Fork Damage → Result Plan Damage
+select_seen b j d x passed (Result.Err e) = damaged
+select_seen b j d x passed (Result.Ok f) =
     pick (leb (j - passed) f.at_left.count)
     (select_next b j d (2 * x) passed f.left f.last)
     (select_right b j d (2 * x + 1) passed f)
@@ -142,7 +143,7 @@ select_seen b j d x passed (Seen.Sound f) =
 abbrev pub at_depth : ℕ → ℕ → Bool
 at_depth d x = eqb (x / 2 ^ d) 1
 
-unfoldable pub select_of : Bounds → ℕ → Standing → NodeNumber → ℕ → List ℕ → Plan
+unfoldable pub select_of : Bounds → ℕ → Standing → NodeNumber → ℕ → List ℕ → Result Plan Damage
 select_of b j s x passed versions =
     sure ((ltb passed j && leb passed b.cells) && at_depth s.depth x.0)
     (select_seen b j s.depth x.0 passed (look_of b s versions))

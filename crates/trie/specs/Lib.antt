@@ -5,6 +5,7 @@ pub mod Size
 pub mod Tables
 pub mod Sound
 pub mod Record
+pub mod Refusing
 pub mod Values
 pub mod Opening
 pub mod Starting

@@ -1,6 +1,6 @@
 -- A worker's record: idle, what of it is judged without the tables, and what its update may still make.
 -- Document 01, "Steps" and "Refusal numbers". Assumes nothing.
-use Rattle.std.specs.Prelude.{Bool, true, false, ◌&&◌, ◌||◌, List, [], ◌∷◌, ℕ, zero, suc, ◌+◌, ◌-◌, ◌/◌, eqb, ltb, leb}
+use Rattle.std.specs.Prelude.{Bool, true, false, ◌&&◌, ◌||◌, List, [], ◌∷◌, ℕ, zero, suc, ◌+◌, ◌-◌, ◌/◌, eqb, ltb, leb, Result}
 use Rattle.decibel.specs.Conversion.{loudest}
 use Rattle.trie.specs.declared.Update.{Update}
 use Rattle.trie.specs.declared.Query.{Query}
@@ -8,9 +8,10 @@ use Rattle.trie.specs.declared.Operation.{Operation}
 use Rattle.trie.specs.declared.Climb.{Climb}
 use Rattle.trie.specs.declared.Phase.{Phase}
 use Rattle.trie.specs.declared.Worker.{Worker}
-use Rattle.trie.specs.declared.Promised.{Promised}
+use Rattle.trie.specs.declared.Damage.{Damage}
 use Rattle.trie.specs.declared.Bounds.{Bounds}
 use Rattle.trie.specs.Choice.{pick}
+use Rattle.trie.specs.Refusing.{damaged}
 
 abbrev pub worker : Phase → Worker
 worker p = record { phase = p }
@@ -69,23 +70,23 @@ unfoldable pub climb_fits : Bounds → Climb → Bool
 climb_fits b c = update_fits b.cells c.update && (above b.height (leaf_of b c.update) c.node.0 && leb c.made b.share)
 
 -- the versions that an update may still make
-abbrev pub owed_phase : ℕ → Phase → Promised
-owed_phase share Phase.Idle = Promised.Of 0
-owed_phase share (Phase.Read u) = Promised.Of share
-owed_phase share (Phase.Swap u v) = Promised.Of share
-owed_phase share (Phase.Refresh c s) = pick (leb c.made share) (Promised.Of (share - c.made)) Promised.Damaged
-owed_phase share (Phase.Ask q) = Promised.Of 0
-owed_phase share (Phase.Find k s) = Promised.Of 0
-owed_phase share (Phase.Rank k s c e) = Promised.Of 0
-owed_phase share (Phase.Select j s x c) = Promised.Of 0
+abbrev pub owed_phase : ℕ → Phase → Result ℕ Damage
+owed_phase share Phase.Idle = Result.Ok 0
+owed_phase share (Phase.Read u) = Result.Ok share
+owed_phase share (Phase.Swap u v) = Result.Ok share
+owed_phase share (Phase.Refresh c s) = pick (leb c.made share) (Result.Ok (share - c.made)) damaged
+owed_phase share (Phase.Ask q) = Result.Ok 0
+owed_phase share (Phase.Find k s) = Result.Ok 0
+owed_phase share (Phase.Rank k s c e) = Result.Ok 0
+owed_phase share (Phase.Select j s x c) = Result.Ok 0
 
-abbrev pub together : Promised → Promised → Promised
-together Promised.Damaged q = Promised.Damaged
-together (Promised.Of a) Promised.Damaged = Promised.Damaged
-together (Promised.Of a) (Promised.Of b) = Promised.Of (a + b)
+abbrev pub together : Result ℕ Damage → Result ℕ Damage → Result ℕ Damage
+together (Result.Err d) q = damaged
+together (Result.Ok a) (Result.Err d) = damaged
+together (Result.Ok a) (Result.Ok b) = Result.Ok (a + b)
 
 -- what the first w records of the board may still make: the page's promised, or one update has made more than its share
-abbrev pub promised_of : ℕ → ℕ → List Worker → Promised
-promised_of share zero board = Promised.Of 0
-promised_of share (suc w) [] = Promised.Of 0
+abbrev pub promised_of : ℕ → ℕ → List Worker → Result ℕ Damage
+promised_of share zero board = Result.Ok 0
+promised_of share (suc w) [] = Result.Ok 0
 promised_of share (suc w) (r ∷ board) = together (owed_phase share r.phase) (promised_of share w board)

@@ -1,10 +1,11 @@
 -- Document 01's number and values for each case of an answer.
 -- Assumes nothing.
-use Rattle.std.specs.Prelude.{ℕ}
+use Rattle.std.specs.Prelude.{ℕ, ⊤, Result}
 use Rattle.decibel.specs.Told.{Told, refused, gives}
 use Rattle.trie.specs.declared.Answer.{Answer}
-use Rattle.trie.specs.declared.Accepted.{Accepted}
+use Rattle.trie.specs.declared.Refusal.{Refusal}
 use Rattle.trie.specs.declared.Progress.{Progress}
+use Rattle.trie.specs.Refusing.{number_of}
 
 -- what an operation answers
 pub data Value : Type 0 where
@@ -30,11 +31,11 @@ value_of (Answer.Level l) = level l.0
 value_of (Answer.Cell k) = cell k
 value_of (Answer.Sums c e) = sums c e.0
 
-abbrev pub accepted_of : Accepted → Told Ok
-accepted_of (Accepted.Refused number) = refused number
-accepted_of Accepted.Ok = gives ok
+abbrev pub accepted_of : Result ⊤ Refusal → Told Ok
+accepted_of (Result.Err refusal) = refused (number_of refusal)
+accepted_of (Result.Ok accepted) = gives ok
 
-abbrev pub progress_of : Progress → Told Course
-progress_of (Progress.Refused number) = refused number
-progress_of Progress.On = gives on
-progress_of (Progress.Done a) = gives (done (value_of a))
+abbrev pub progress_of : Result Progress Refusal → Told Course
+progress_of (Result.Err refusal) = refused (number_of refusal)
+progress_of (Result.Ok Progress.On) = gives on
+progress_of (Result.Ok (Progress.Done a)) = gives (done (value_of a))

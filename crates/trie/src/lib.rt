@@ -2,7 +2,11 @@
 // Node and version numbers, levels and energies are types of their own, so that none stands in for another.
 #![tactic(auto)]
 
-use decibel::{Energy, Level};
+ghost use Rattle.std.specs.Prelude.{◌≡◌};
+ghost use Rattle.trie.specs.Refusing.{number_of};
+ghost use Rattle.trie.specs.declared.Refusal.TheVariants.{Argument, Damaged};
+
+use decibel::{Energy, Level, TooLoud};
 
 // The most cells of a ping, the height of their tree, the most workers, the most versions, and the words of one.
 pub const MOST_CELLS: u64 = 4096;
@@ -109,22 +113,71 @@ pub enum Answer {
     Sums(u64, Energy),
 }
 
-// What open and start answer.
-#[derive(Clone, Copy)]
-pub enum Accepted {
-    Refused(u64),
-    Ok,
+// Why a call is refused. Each reason has its number on the page, and `Command` and `AnswerRow` are told by the edges alone.
+#[derive(Clone, Copy, Debug, PartialEq, Eq)]
+pub enum Refusal {
+    Cells,
+    Workers,
+    Tables,
+    Worker,
+    Busy,
+    Idle,
+    Argument,
+    Room,
+    Damaged,
+    Command,
+    AnswerRow,
 }
 
-// What a step answers.
+impl From<Refusal> for u64 {
+    ghost from_gives = { λ refusal number. number ≡ number_of refusal };
+
+    fn from(refusal: Refusal) -> u64 {
+        match refusal {
+            Refusal::Cells => 1,
+            Refusal::Workers => 2,
+            Refusal::Tables => 3,
+            Refusal::Worker => 4,
+            Refusal::Busy => 5,
+            Refusal::Idle => 6,
+            Refusal::Argument => 7,
+            Refusal::Room => 8,
+            Refusal::Damaged => 9,
+            Refusal::Command => 10,
+            Refusal::AnswerRow => 20,
+        }
+    }
+}
+
+// What is lent to a step, or what its record holds, is none that a history leaves.
+#[derive(Clone, Copy, Debug, PartialEq, Eq)]
+pub struct Damage;
+
+impl From<Damage> for Refusal {
+    ghost from_gives = { λ damage refusal. refusal ≡ Damaged };
+
+    fn from(_damage: Damage) -> Refusal {
+        Refusal::Damaged
+    }
+}
+
+impl From<TooLoud> for Refusal {
+    ghost from_gives = { λ loud refusal. refusal ≡ Argument };
+
+    fn from(_loud: TooLoud) -> Refusal {
+        Refusal::Argument
+    }
+}
+
+// What a step answers where it is not refused.
+// No Option: a step that goes on is not an answer that is missing, and an operation may answer none.
 #[derive(Clone, Copy)]
 pub enum Progress {
-    Refused(u64),
     On,
     Done(Answer),
 }
 
-// A worker after its step: under way, or idle with its answer given.
+// A worker after its step: under way, or idle with its answer given. No Result, as neither is a failure.
 #[derive(Clone, Copy)]
 pub enum Next {
     On(Worker),
@@ -135,16 +188,8 @@ pub enum Next {
 // The worker after it stands first in both, at the same place, so that the two are copied alike.
 #[derive(Clone, Copy)]
 pub enum Plan {
-    Damaged,
     Keep(Next),
     Put(Next, VersionNumber, NodeNumber, Version),
-}
-
-// What the busy updates of the board may still make; or one of them has made too many.
-#[derive(Clone, Copy)]
-pub enum Promised {
-    Damaged,
-    Of(u64),
 }
 
 // The numbers that a step is judged by: N, h, N times 10^9, 1 + h, the versions used, and V.
@@ -158,13 +203,6 @@ pub struct Bounds {
     pub room: u64,
 }
 
-// N and both tables judged: refusal 1 or 3, or the bounds of a tree.
-#[derive(Clone, Copy)]
-pub enum Sized {
-    Refused(u64),
-    Of(Bounds),
-}
-
 // The two children of the version at which a query stands, and whether they are leaves.
 #[derive(Clone, Copy)]
 pub struct Fork {
@@ -173,33 +211,4 @@ pub struct Fork {
     pub right: VersionNumber,
     pub at_right: Version,
     pub last: bool,
-}
-
-#[derive(Clone, Copy)]
-pub enum Seen {
-    Unsound,
-    Sound(Fork),
-}
-
-// A running sum: within its bound, or past it.
-#[derive(Clone, Copy)]
-pub enum Reached {
-    Past,
-    Of(u64),
-}
-
-// What a step makes of a record: nothing, as it is refused; the record one step further on; or an answer, which leaves it idle.
-// The refusal's number is of one byte, so that it stands beside the record and not in its place: what is copied is shorter so.
-#[derive(Clone, Copy)]
-pub enum Moved {
-    Refused(u8),
-    On(Worker),
-    Done(Answer),
-}
-
-// A record after a start, and what the start answers.
-#[derive(Clone, Copy)]
-pub struct Begun {
-    pub accepted: Accepted,
-    pub worker: Worker,
 }
