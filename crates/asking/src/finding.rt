@@ -5,7 +5,7 @@ ghost use Rattle.trie.specs.Asking.{level_of, find_seen, find_of};
 
 use crate::looking::{at_side, look, side, turns_right};
 use crate::plans::go_on;
-use trie::{Answer, Bounds, Fork, Next, Phase, Plan, Seen, Standing, Version};
+use trie::{Answer, Bounds, Damage, Fork, Next, Phase, Plan, Standing, Version};
 
 fn level_of(r: Version) -> Answer
     ensures { result ≡ level_of r }
@@ -18,12 +18,12 @@ fn level_of(r: Version) -> Answer
     }
 }
 
-fn find_seen(k: u64, depth: u64, right: bool, f: Fork) -> Plan
+fn find_seen(k: u64, depth: u64, right: bool, f: Fork) -> Result<Plan, Damage>
     requires { depth + 1 < 18446744073709551616 }
-    ensures { result ≡ find_seen k depth right (Seen.Sound f) }
+    ensures { result ≡ find_seen k depth right (Ok f) }
 {
     if f.last {
-        Plan::Keep(Next::Done(level_of(at_side(right, f))))
+        Ok(Plan::Keep(Next::Done(level_of(at_side(right, f)))))
     } else {
         go_on(Phase::Find(
             k,
@@ -35,16 +35,16 @@ fn find_seen(k: u64, depth: u64, right: bool, f: Fork) -> Plan
     }
 }
 
-pub fn find(b: Bounds, k: u64, s: Standing, versions: &[u64]) -> Plan
+pub fn find(b: Bounds, k: u64, s: Standing, versions: &[u64]) -> Result<Plan, Damage>
     ensures { result ≡ find_of b k s versions.now }
 {
     if b.cells <= k {
-        return Plan::Damaged;
+        return Err(Damage);
     }
     let depth = s.depth;
     let right = turns_right(b, k, depth);
     match look(b, s, versions) {
-        Seen::Unsound => Plan::Damaged,
-        Seen::Sound(f) => find_seen(k, depth, right, f),
+        Err(Damage) => Err(Damage),
+        Ok(f) => find_seen(k, depth, right, f),
     }
 }

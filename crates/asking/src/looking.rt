@@ -5,16 +5,16 @@ ghost use Rattle.trie.specs.Asking.{look_of, turns_right, toward, towards};
 
 use sound::is_sound;
 use tables::{ancestor, load};
-use trie::{Bounds, Fork, Seen, Standing, Version, VersionNumber};
+use trie::{Bounds, Damage, Fork, Standing, Version, VersionNumber};
 
 // Reads the version where the query stands and both its children, and judges all three.
-pub(crate) fn look(b: Bounds, s: Standing, versions: &[u64]) -> Seen
+pub(crate) fn look(b: Bounds, s: Standing, versions: &[u64]) -> Result<Fork, Damage>
     ensures { result ≡ look_of b s versions.now }
 {
     let depth = s.depth;
     let v = s.version;
     if b.height <= depth {
-        return Seen::Unsound;
+        return Err(Damage);
     }
     let last = depth + 1 == b.height;
     let at = load(versions, v);
@@ -25,7 +25,7 @@ pub(crate) fn look(b: Bounds, s: Standing, versions: &[u64]) -> Seen
     if is_sound(b, false, v, at)
         & (is_sound(b, last, left, at_left) & is_sound(b, last, right, at_right))
     {
-        Seen::Sound(Fork {
+        Ok(Fork {
             left: left,
             at_left: at_left,
             right: right,
@@ -33,7 +33,7 @@ pub(crate) fn look(b: Bounds, s: Standing, versions: &[u64]) -> Seen
             last: last,
         })
     } else {
-        Seen::Unsound
+        Err(Damage)
     }
 }
 

@@ -2,10 +2,10 @@
 // A query changes nothing but its own record.
 ghost use Rattle.std.specs.Prelude.{◌≡◌};
 
-use trie::{Next, Phase, Plan, Worker};
+use trie::{Damage, Next, Phase, Plan, Worker};
 
-pub(crate) fn go_on(p: Phase) -> Plan
-    ensures { result ≡ Plan.Keep (Next.On (record { phase = p })) }
+pub(crate) fn go_on(p: Phase) -> Result<Plan, Damage>
+    ensures { result ≡ keep (Next.On (record { phase = p })) }
 {
-    Plan::Keep(Next::On(Worker { phase: p }))
+    Ok(Plan::Keep(Next::On(Worker { phase: p })))
 }

@@ -8,7 +8,7 @@ use crate::looking::{at_side, look, side, turns_right};
 use crate::plans::go_on;
 use decibel::Energy;
 use sound::{is_within, sum_within};
-use trie::{Answer, Bounds, Fork, Next, Phase, Plan, Reached, Seen, Standing, VersionNumber};
+use trie::{Answer, Bounds, Damage, Fork, Next, Phase, Plan, Standing, VersionNumber};
 
 fn only_if(t: bool, x: u64) -> u64
     ensures { result ≡ pick t x 0 }
@@ -17,27 +17,27 @@ fn only_if(t: bool, x: u64) -> u64
 }
 
 // What is passed so far, with the left side where the way turns right, and with the leaf at the last step.
-fn reach(right: bool, last: bool, running: u64, left: u64, leaf: u64, most: u64) -> Reached
-    ensures { result ≡ pick (leb (reached_of last leaf (passed_of right left running)) most) (Reached.Of (reached_of last leaf (passed_of right left running))) Reached.Past }
+fn reach(right: bool, last: bool, running: u64, left: u64, leaf: u64, most: u64) -> Result<u64, Damage>
+    ensures { result ≡ pick (leb (reached_of last leaf (passed_of right left running)) most) (Ok (reached_of last leaf (passed_of right left running))) damaged }
 {
     let beside = only_if(right, left);
     let below = only_if(last, leaf);
     if !is_within(running, beside, most) {
-        return Reached::Past;
+        return Err(Damage);
     }
     let passed = sum_within(running, beside, most);
     if !is_within(passed, below, most) {
-        return Reached::Past;
+        return Err(Damage);
     }
-    Reached::Of(sum_within(passed, below, most))
+    Ok(sum_within(passed, below, most))
 }
 
-fn rank_next(k: u64, depth: u64, v: VersionNumber, last: bool, count: u64, energy: u64) -> Plan
+fn rank_next(k: u64, depth: u64, v: VersionNumber, last: bool, count: u64, energy: u64) -> Result<Plan, Damage>
     requires { depth + 1 < 18446744073709551616 }
     ensures { result ≡ rank_next k depth v last count energy }
 {
     if last {
-        Plan::Keep(Next::Done(Answer::Sums(count, Energy(energy))))
+        Ok(Plan::Keep(Next::Done(Answer::Sums(count, Energy(energy)))))
     } else {
         go_on(Phase::Rank(
             k,
@@ -51,9 +51,9 @@ fn rank_next(k: u64, depth: u64, v: VersionNumber, last: bool, count: u64, energ
     }
 }
 
-fn rank_seen(b: Bounds, k: u64, depth: u64, right: bool, count: u64, energy: u64, f: Fork) -> Plan
+fn rank_seen(b: Bounds, k: u64, depth: u64, right: bool, count: u64, energy: u64, f: Fork) -> Result<Plan, Damage>
     requires { depth + 1 < 18446744073709551616 }
-    ensures { result ≡ rank_seen b k depth right count energy (Seen.Sound f) }
+    ensures { result ≡ rank_seen b k depth right count energy (Ok f) }
 {
     let at = at_side(right, f);
     let at_left = f.at_left;
@@ -66,25 +66,25 @@ fn rank_seen(b: Bounds, k: u64, depth: u64, right: bool, count: u64, energy: u64
         at.energy.0,
         b.energy,
     );
-    let Reached::Of(all) = counted else {
-        return Plan::Damaged;
+    let Ok(all) = counted else {
+        return Err(Damage);
     };
-    let Reached::Of(sum) = weighed else {
-        return Plan::Damaged;
+    let Ok(sum) = weighed else {
+        return Err(Damage);
     };
     rank_next(k, depth, side(right, f), f.last, all, sum)
 }
 
-pub fn rank(b: Bounds, k: u64, s: Standing, count: u64, energy: Energy, versions: &[u64]) -> Plan
+pub fn rank(b: Bounds, k: u64, s: Standing, count: u64, energy: Energy, versions: &[u64]) -> Result<Plan, Damage>
     ensures { result ≡ rank_of b k s count energy versions.now }
 {
     if !((k < b.cells) & ((count <= b.cells) & (energy.0 <= b.energy))) {
-        return Plan::Damaged;
+        return Err(Damage);
     }
     let depth = s.depth;
     let right = turns_right(b, k, depth);
     match look(b, s, versions) {
-        Seen::Unsound => Plan::Damaged,
-        Seen::Sound(f) => rank_seen(b, k, depth, right, count, energy.0, f),
+        Err(Damage) => Err(Damage),
+        Ok(f) => rank_seen(b, k, depth, right, count, energy.0, f),
     }
 }

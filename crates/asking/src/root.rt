@@ -9,10 +9,10 @@ use records::query_fits;
 use sound::is_sound_in;
 use tables::{load, word};
 use trie::{
-    Answer, Bounds, Next, NodeNumber, Phase, Plan, Query, Standing, Version, VersionNumber,
+    Answer, Bounds, Damage, Next, NodeNumber, Phase, Plan, Query, Standing, Version, VersionNumber,
 };
 
-fn first(q: Query, v: VersionNumber, r: Version) -> Plan
+fn first(q: Query, v: VersionNumber, r: Version) -> Result<Plan, Damage>
     ensures { result ≡ first_of q v r }
 {
     let root = Standing {
@@ -25,25 +25,25 @@ fn first(q: Query, v: VersionNumber, r: Version) -> Plan
         Query::Find(k) => go_on(Phase::Find(k, root)),
         Query::Select(j) => {
             if count < j {
-                Plan::Keep(Next::Done(Answer::None))
+                Ok(Plan::Keep(Next::Done(Answer::None)))
             } else {
                 go_on(Phase::Select(j, root, NodeNumber(1), 0))
             }
         }
         Query::Rank(k) => go_on(Phase::Rank(k, root, 0, Energy(0))),
-        Query::Total => Plan::Keep(Next::Done(Answer::Sums(count, energy))),
+        Query::Total => Ok(Plan::Keep(Next::Done(Answer::Sums(count, energy)))),
     }
 }
 
-pub fn ask(b: Bounds, q: Query, nodes: &[u64], versions: &[u64]) -> Plan
+pub fn ask(b: Bounds, q: Query, nodes: &[u64], versions: &[u64]) -> Result<Plan, Damage>
     ensures { result ≡ ask_of b q nodes.now versions.now }
 {
     if !query_fits(b.cells, q) {
-        return Plan::Damaged;
+        return Err(Damage);
     }
     let v = VersionNumber(word(nodes, 1));
     if !is_sound_in(b, false, versions, v) {
-        return Plan::Damaged;
+        return Err(Damage);
     }
     first(q, v, load(versions, v))
 }

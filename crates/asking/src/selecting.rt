@@ -10,7 +10,7 @@ use crate::plans::go_on;
 use sound::{is_within, sum_within};
 use tables::ancestor;
 use trie::{
-    Answer, Bounds, Fork, Next, NodeNumber, Phase, Plan, Seen, Standing, TALLEST, VersionNumber,
+    Answer, Bounds, Damage, Fork, Next, NodeNumber, Phase, Plan, Standing, TALLEST, VersionNumber,
 };
 
 // The cell of a leaf's node.
@@ -28,12 +28,12 @@ fn select_next(
     passed: u64,
     v: VersionNumber,
     last: bool,
-) -> Plan
+) -> Result<Plan, Damage>
     requires { depth + 1 < 18446744073709551616 }
     ensures { result ≡ select_next b j depth x passed v last }
 {
     if last {
-        Plan::Keep(Next::Done(Answer::Cell(cell_at(x, b.cells))))
+        Ok(Plan::Keep(Next::Done(Answer::Cell(cell_at(x, b.cells)))))
     } else {
         go_on(Phase::Select(
             j,
@@ -49,17 +49,17 @@ fn select_next(
 
 // The left side has too few: right, and its count is passed. The sum is judged before all else, since the last step forms it too.
 // That step answers here, so that the other, which goes on, is made for no last step: one form for both made every step slower.
-fn select_right(b: Bounds, j: u64, depth: u64, x: u64, passed: u64, f: Fork) -> Plan
+fn select_right(b: Bounds, j: u64, depth: u64, x: u64, passed: u64, f: Fork) -> Result<Plan, Damage>
     requires { depth + 1 < 18446744073709551616 }
     ensures { result ≡ select_right b j depth x passed f }
 {
     let right = f.right;
     let left_behind = f.at_left;
     if !is_within(passed, left_behind.count, b.cells) {
-        return Plan::Damaged;
+        return Err(Damage);
     }
     if f.last {
-        return Plan::Keep(Next::Done(Answer::Cell(cell_at(x, b.cells))));
+        return Ok(Plan::Keep(Next::Done(Answer::Cell(cell_at(x, b.cells)))));
     }
     select_next(
         b,
@@ -72,9 +72,9 @@ fn select_right(b: Bounds, j: u64, depth: u64, x: u64, passed: u64, f: Fork) -> 
     )
 }
 
-fn select_seen(b: Bounds, j: u64, depth: u64, x: u64, passed: u64, f: Fork) -> Plan
+fn select_seen(b: Bounds, j: u64, depth: u64, x: u64, passed: u64, f: Fork) -> Result<Plan, Damage>
     requires { (depth + 1 < 18446744073709551616) × (x < 4611686018427387904) × (passed ≤ j) }
-    ensures { result ≡ select_seen b j depth x passed (Seen.Sound f) }
+    ensures { result ≡ select_seen b j depth x passed (Ok f) }
 {
     let left = f.left;
     let at_left = f.at_left;
@@ -85,18 +85,18 @@ fn select_seen(b: Bounds, j: u64, depth: u64, x: u64, passed: u64, f: Fork) -> P
     }
 }
 
-pub fn select(b: Bounds, j: u64, s: Standing, x: NodeNumber, passed: u64, versions: &[u64]) -> Plan
+pub fn select(b: Bounds, j: u64, s: Standing, x: NodeNumber, passed: u64, versions: &[u64]) -> Result<Plan, Damage>
     ensures { result ≡ sure (leb b.height tallest) (select_of b j s x passed versions.now) }
 {
     if TALLEST < b.height {
-        return Plan::Damaged;
+        return Err(Damage);
     }
     let depth = s.depth;
     if !(((passed < j) & (passed <= b.cells)) & (ancestor(x.0, depth) == 1)) {
-        return Plan::Damaged;
+        return Err(Damage);
     }
     match look(b, s, versions) {
-        Seen::Unsound => Plan::Damaged,
-        Seen::Sound(f) => select_seen(b, j, depth, x.0, passed, f),
+        Err(Damage) => Err(Damage),
+        Ok(f) => select_seen(b, j, depth, x.0, passed, f),
     }
 }

@@ -12,7 +12,7 @@ use marking::{climb_from, plan_swap};
 use records::climb_fits;
 use sound::{is_sound_in, is_within, sum_within};
 use tables::{load, word};
-use trie::{Answer, Bounds, Climb, Held, Next, Phase, Plan, Version, VersionNumber, Worker};
+use trie::{Answer, Bounds, Climb, Damage, Held, Next, Phase, Plan, Version, VersionNumber, Worker};
 
 // Done with a node: at the root the update answers, else it goes on at the parent.
 fn rise(c: Climb, made: u64) -> Next
@@ -54,7 +54,7 @@ fn miss(c: Climb) -> Next
 }
 
 // The climb is spelled out, as a whole one would be copied with the bytes between its fields.
-fn hold(c: Climb, held: Held) -> Plan
+fn hold(c: Climb, held: Held) -> Result<Plan, Damage>
     ensures { result ≡ holds c held }
 {
     let update = c.update;
@@ -66,13 +66,13 @@ fn hold(c: Climb, held: Held) -> Plan
         second: c.second,
         made: c.made,
     };
-    Plan::Keep(Next::On(Worker {
+    Ok(Plan::Keep(Next::On(Worker {
         phase: Phase::Refresh(same, held),
-    }))
+    })))
 }
 
 // Where the node still has the version read, the sum of its children takes its place.
-fn place_sum(b: Bounds, c: Climb, now: u64, v: VersionNumber, sum: Version) -> Plan
+fn place_sum(b: Bounds, c: Climb, now: u64, v: VersionNumber, sum: Version) -> Result<Plan, Damage>
     ensures { result ≡ place_sum b c now v sum }
 {
     let node = c.node;
@@ -81,10 +81,10 @@ fn place_sum(b: Bounds, c: Climb, now: u64, v: VersionNumber, sum: Version) -> P
         if made < b.share {
             plan_swap(b, node, sum, rise(c, made + 1))
         } else {
-            Plan::Damaged
+            Err(Damage)
         }
     } else {
-        Plan::Keep(miss(c))
+        Ok(Plan::Keep(miss(c)))
     }
 }
 
@@ -96,17 +96,17 @@ fn join(
     r: VersionNumber,
     nodes: &[u64],
     versions: &[u64],
-) -> Plan
+) -> Result<Plan, Damage>
     ensures { result ≡ join_of b c v l r nodes.now versions.now }
 {
     let left = load(versions, l);
     let right = load(versions, r);
     let node = c.node;
     if !is_within(left.count, right.count, b.cells) {
-        return Plan::Damaged;
+        return Err(Damage);
     }
     if !is_within(left.energy.0, right.energy.0, b.energy) {
-        return Plan::Damaged;
+        return Err(Damage);
     }
     let sum = Version {
         left: l,
@@ -118,7 +118,7 @@ fn join(
     place_sum(b, c, word(nodes, node.0), v, sum)
 }
 
-fn read_node(b: Bounds, c: Climb, nodes: &[u64], versions: &[u64]) -> Plan
+fn read_node(b: Bounds, c: Climb, nodes: &[u64], versions: &[u64]) -> Result<Plan, Damage>
     ensures { result ≡ refresh_held b c Held.Nothing nodes.now versions.now }
 {
     let node = c.node;
@@ -126,23 +126,23 @@ fn read_node(b: Bounds, c: Climb, nodes: &[u64], versions: &[u64]) -> Plan
     if is_sound_in(b, false, versions, v) {
         hold(c, Held::Node(v))
     } else {
-        Plan::Damaged
+        Err(Damage)
     }
 }
 
-fn read_left(b: Bounds, c: Climb, v: VersionNumber, nodes: &[u64], versions: &[u64]) -> Plan
+fn read_left(b: Bounds, c: Climb, v: VersionNumber, nodes: &[u64], versions: &[u64]) -> Result<Plan, Damage>
     requires { c.node.0 ≤ 2 * most_cells }
     ensures { result ≡ refresh_held b c (Held.Node v) nodes.now versions.now }
 {
     let left = 2 * c.node.0;
     let l = VersionNumber(word(nodes, left));
     if !is_sound_in(b, false, versions, v) {
-        return Plan::Damaged;
+        return Err(Damage);
     }
     if is_sound_in(b, b.cells <= left, versions, l) {
         hold(c, Held::Left(v, l))
     } else {
-        Plan::Damaged
+        Err(Damage)
     }
 }
 
@@ -153,7 +153,7 @@ fn read_right(
     l: VersionNumber,
     nodes: &[u64],
     versions: &[u64],
-) -> Plan
+) -> Result<Plan, Damage>
     requires { c.node.0 ≤ 2 * most_cells }
     ensures { result ≡ refresh_held b c (Held.Left v l) nodes.now versions.now }
 {
@@ -161,15 +161,15 @@ fn read_right(
     let leaves = b.cells <= left;
     let r = VersionNumber(word(nodes, left + 1));
     if !is_sound_in(b, false, versions, v) {
-        return Plan::Damaged;
+        return Err(Damage);
     }
     if !is_sound_in(b, leaves, versions, l) {
-        return Plan::Damaged;
+        return Err(Damage);
     }
     if is_sound_in(b, leaves, versions, r) {
         hold(c, Held::Both(v, l, r))
     } else {
-        Plan::Damaged
+        Err(Damage)
     }
 }
 
@@ -181,28 +181,28 @@ fn try_swap(
     r: VersionNumber,
     nodes: &[u64],
     versions: &[u64],
-) -> Plan
+) -> Result<Plan, Damage>
     requires { c.node.0 ≤ 2 * most_cells }
     ensures { result ≡ refresh_held b c (Held.Both v l r) nodes.now versions.now }
 {
     let leaves = b.cells <= 2 * c.node.0;
     if !is_sound_in(b, false, versions, v) {
-        return Plan::Damaged;
+        return Err(Damage);
     }
     if !is_sound_in(b, leaves, versions, l) {
-        return Plan::Damaged;
+        return Err(Damage);
     }
     if !is_sound_in(b, leaves, versions, r) {
-        return Plan::Damaged;
+        return Err(Damage);
     }
     join(b, c, v, l, r, nodes, versions)
 }
 
-pub fn refresh(b: Bounds, c: Climb, held: Held, nodes: &[u64], versions: &[u64]) -> Plan
+pub fn refresh(b: Bounds, c: Climb, held: Held, nodes: &[u64], versions: &[u64]) -> Result<Plan, Damage>
     ensures { result ≡ sure (leb b.cells most_cells) (refresh_of b c held nodes.now versions.now) }
 {
     if !climb_fits(b, c) {
-        return Plan::Damaged;
+        return Err(Damage);
     }
     match held {
         Held::Nothing => read_node(b, c, nodes, versions),

@@ -1,5 +1,6 @@
 -- The new version of a leaf: the level fits, so that the conversion gives its energy and no refusal.
 -- Assumes nothing.
+use Rattle.std.specs.Prelude.{Result, Ok, Err}
 use mathlib.Core.Path.{◌≡◌, sym, ap, ◌∙◌, subst}
 use mathlib.Core.Bool.{true}
 use Prim.Native.Nat.{ℕ}
@@ -8,7 +9,7 @@ use borrow.Author.Tests.{leb-true}
 use lib.Dec.{ltb, leb}
 use Rattle.decibel.specs.declared.Level.{Level}
 use Rattle.decibel.specs.declared.Energy.{Energy}
-use Rattle.decibel.specs.declared.Converted.{Converted}
+use Rattle.decibel.specs.declared.TooLoud.{TooLoud}
 use Rattle.decibel.specs.Told.{Told, refused, gives}
 use Rattle.decibel.specs.Energy.{energy_of}
 use Rattle.decibel.specs.Conversion.{loudest, convert_of}
@@ -21,20 +22,20 @@ use Rattle.trie.specs.Record.{update_fits}
 use Rattle.trie.specs.Leaf.{wanted}
 use Rattle.trie.proofs.SizeLaws.{and_second}
 
-module _ (n : ℕ) (u : Update) (k : ℕ) (level : Level) (answer : Converted) (fits : update_fits n u ≡ true) (is : u ≡ Update.Insert k level) (told : told_of answer ≡ convert_of level.0) where
+module _ (n : ℕ) (u : Update) (k : ℕ) (level : Level) (answer : Result Energy TooLoud) (fits : update_fits n u ≡ true) (is : u ≡ Update.Insert k level) (told : told_of answer ≡ convert_of level.0) where
   gives_energy : told_of answer ≡ gives (energy_of level.0)
   gives_energy =
       let f : update_fits n (Update.Insert k level) ≡ true = subst (λ (x : Update). update_fits n x ≡ true) is fits in
       told ∙ converts level.0 (leb-true level.0 loudest (and_second (ltb k n) (leb level.0 loudest) f))
 
-  pub new_marked : (energy : Energy) (r : Version) → answer ≡ Converted.Is energy → r ≡ version 0 0 1 energy.0 level.0 → r ≡ wanted u
+  pub new_marked : (energy : Energy) (r : Version) → answer ≡ Ok energy → r ≡ version 0 0 1 energy.0 level.0 → r ≡ wanted u
   new_marked energy r e q =
       let g : ◌≡◌ {A = Told ℕ} (gives energy.0) (gives (energy_of level.0)) = sym (ap told_of e) ∙ gives_energy in
       let same : energy.0 ≡ energy_of level.0 = cc in
       q ∙ ap (λ (t : ℕ). version 0 0 1 t level.0) same ∙ sym (ap wanted is)
 
-  pub never_loud : {A : Type 0} → answer ≡ Converted.TooLoud → A
-  never_loud e =
+  pub never_loud : {A : Type 0} (loud : TooLoud) → answer ≡ Err loud → A
+  never_loud loud e =
       let g : ◌≡◌ {A = Told ℕ} (refused 7) (gives (energy_of level.0)) = sym (ap told_of e) ∙ gives_energy in
       absurd (let z : ◌≡◌ {A = ℕ} 0 1 = cc in omega arith)
 

@@ -7,15 +7,15 @@ ghost use Rattle.trie.specs.Choice.{pick};
 ghost use Rattle.trie.specs.Size.{most_cells};
 ghost use Rattle.trie.specs.Record.{update_fits};
 ghost use Rattle.trie.specs.Tables.{version};
-ghost use Rattle.trie.specs.Leaf.{sure, goes_on, as_wanted, wanted, climbs_from, swapped, read_of, swap_of};
+ghost use Rattle.trie.specs.Leaf.{sure, keep, goes_on, as_wanted, wanted, climbs_from, swapped, read_of, swap_of};
 
-use decibel::{Converted, Energy, Level};
+use decibel::{Energy, Level, TooLoud};
 use records::{cell, update_fits};
 use sound::is_sound_in;
 use tables::{load, word};
 use trie::{
-    Bounds, Climb, Held, MOST_CELLS, Next, NodeNumber, Phase, Plan, Update, Version, VersionNumber,
-    Worker,
+    Bounds, Climb, Damage, Held, MOST_CELLS, Next, NodeNumber, Phase, Plan, Update, Version,
+    VersionNumber, Worker,
 };
 
 fn is_as_wanted(u: Update, r: Version) -> bool
@@ -47,8 +47,8 @@ fn new_leaf(n: u64, u: Update) -> Version
 {
     match u {
         Update::Insert(_, level) => match decibel::convert(level) {
-            Converted::Is(energy) => leaf_version(1, energy, level),
-            Converted::TooLoud => leaf_version(0, Energy(0), Level(0)),
+            Ok(energy) => leaf_version(1, energy, level),
+            Err(TooLoud) => leaf_version(0, Energy(0), Level(0)),
         },
         Update::Delete(_) => leaf_version(0, Energy(0), Level(0)),
     }
@@ -71,61 +71,67 @@ pub fn climb_from(x: NodeNumber, u: Update, yes: bool, made: u64) -> Next
 }
 
 // One place plans a new version: it takes the next number.
-pub fn plan_swap(b: Bounds, x: NodeNumber, r: Version, next: Next) -> Plan
+pub fn plan_swap(b: Bounds, x: NodeNumber, r: Version, next: Next) -> Result<Plan, Damage>
     ensures { result ≡ swapped b x.0 r next }
 {
     let used = b.used;
     if used < b.room {
-        Plan::Put(next, VersionNumber(used + 1), x, r)
+        Ok(Plan::Put(next, VersionNumber(used + 1), x, r))
     } else {
-        Plan::Damaged
+        Err(Damage)
     }
 }
 
 // What follows the read of the version of leaf x.
-fn go_by(x: NodeNumber, u: Update, v: VersionNumber, found: bool) -> Plan
-    ensures { result ≡ Plan.Keep (pick found (climbs_from x.0 u false 0) (goes_on (Phase.Swap u v))) }
+fn go_by(x: NodeNumber, u: Update, v: VersionNumber, found: bool) -> Result<Plan, Damage>
+    ensures { result ≡ keep (pick found (climbs_from x.0 u false 0) (goes_on (Phase.Swap u v))) }
 {
     if found {
-        Plan::Keep(climb_from(x, u, false, 0))
+        Ok(Plan::Keep(climb_from(x, u, false, 0)))
     } else {
-        Plan::Keep(Next::On(Worker {
+        Ok(Plan::Keep(Next::On(Worker {
             phase: Phase::Swap(u, v),
-        }))
+        })))
     }
 }
 
-pub fn read(b: Bounds, u: Update, nodes: &[u64], versions: &[u64]) -> Plan
+pub fn read(b: Bounds, u: Update, nodes: &[u64], versions: &[u64]) -> Result<Plan, Damage>
     ensures { result ≡ sure (leb b.cells most_cells) (read_of b u nodes.now versions.now) }
 {
     let n = b.cells;
     if MOST_CELLS < n {
-        return Plan::Damaged;
+        return Err(Damage);
     }
     if !update_fits(n, u) {
-        return Plan::Damaged;
+        return Err(Damage);
     }
     let leaf = n + cell(u);
     let v = VersionNumber(word(nodes, leaf));
     if !is_sound_in(b, true, versions, v) {
-        return Plan::Damaged;
+        return Err(Damage);
     }
     let found = is_as_wanted(u, load(versions, v));
     go_by(NodeNumber(leaf), u, v, found)
 }
 
-pub fn swap(b: Bounds, u: Update, v: VersionNumber, nodes: &[u64], versions: &[u64]) -> Plan
+pub fn swap(
+    b: Bounds,
+    u: Update,
+    v: VersionNumber,
+    nodes: &[u64],
+    versions: &[u64],
+) -> Result<Plan, Damage>
     ensures { result ≡ sure (leb b.cells most_cells) (swap_of b u v nodes.now versions.now) }
 {
     let n = b.cells;
     if MOST_CELLS < n {
-        return Plan::Damaged;
+        return Err(Damage);
     }
     if !update_fits(n, u) {
-        return Plan::Damaged;
+        return Err(Damage);
     }
     if !is_sound_in(b, true, versions, v) {
-        return Plan::Damaged;
+        return Err(Damage);
     }
     let leaf = n + cell(u);
     let now = word(nodes, leaf);
@@ -137,6 +143,6 @@ pub fn swap(b: Bounds, u: Update, v: VersionNumber, nodes: &[u64], versions: &[u
             climb_from(NodeNumber(leaf), u, true, 1),
         )
     } else {
-        Plan::Keep(climb_from(NodeNumber(leaf), u, false, 0))
+        Ok(Plan::Keep(climb_from(NodeNumber(leaf), u, false, 0)))
     }
 }
