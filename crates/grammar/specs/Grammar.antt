@@ -3,6 +3,7 @@
 --   open N W V      start w insert k L    start w delete k    start w find k
 --   step w          start w select j      start w rank k      start w total
 use Rattle.std.specs.Prelude.{◌&&◌, List, [], ◌∷◌, ℕ, ◌+◌, ◌-◌, ◌*◌, ltb, leb, length, take, drop, codes, bytes_eq, Option, Some, None, option_map, option_and_then}
+use Rattle.std.specs.Option.{option_or}
 use Rattle.trie.specs.Choice.{pick}
 use Rattle.trie.specs.declared.Operation.{Operation}
 use Rattle.trie.specs.declared.Query.{Query}
@@ -15,11 +16,6 @@ use Rattle.grammar.specs.declared.Command.{Command}
 infixl 10 ◌>>=◌
 abbrev pub ◌>>=◌ : {A B : Type 0} → Option A → (A → Option B) → Option B
 o >>= f = option_and_then f o
-
--- the first reading, or else the other
-abbrev pub either : {A : Type 0} → Option A → Option A → Option A
-either (Some x) other = Some x
-either None other = other
 
 -- what follows the word, where the bytes start with it
 abbrev pub after : List ℕ → List ℕ → Option (List ℕ)
@@ -88,7 +84,7 @@ insert_of s = do
   Some (Update.Insert arguments.0 (record { 0 = arguments.1 }))
 
 abbrev pub update_of : List ℕ → Option Update
-update_of s = either (insert_of s) (option_map Update.Delete (argument_of (codes " delete ") s))
+update_of s = option_or (insert_of s) (option_map Update.Delete (argument_of (codes " delete ") s))
 
 -- nothing follows the word
 abbrev pub total_of : List ℕ → Option Query
@@ -96,13 +92,13 @@ total_of s = after (codes " total") s >>= whole Query.Total
 
 abbrev pub query_of : List ℕ → Option Query
 query_of s =
-    either (option_map Query.Find (argument_of (codes " find ") s))
-    (either (option_map Query.Select (argument_of (codes " select ") s))
-    (either (option_map Query.Rank (argument_of (codes " rank ") s))
+    option_or (option_map Query.Find (argument_of (codes " find ") s))
+    (option_or (option_map Query.Select (argument_of (codes " select ") s))
+    (option_or (option_map Query.Rank (argument_of (codes " rank ") s))
     (total_of s)))
 
 abbrev pub operation_of : List ℕ → Option Operation
-operation_of s = either (option_map Operation.Update (update_of s)) (option_map Operation.Query (query_of s))
+operation_of s = option_or (option_map Operation.Update (update_of s)) (option_map Operation.Query (query_of s))
 
 -- ---- commands
 
@@ -124,7 +120,7 @@ open_of s = do
   Some (Command.Open sizes.0 sizes.1 sizes.2)
 
 abbrev pub command_of : List ℕ → Option Command
-command_of s = either (step_of s) (either (start_of s) (open_of s))
+command_of s = option_or (step_of s) (option_or (start_of s) (open_of s))
 
 -- the most bytes of a line that can be a command
 abbrev pub longest : ℕ
