@@ -17,6 +17,11 @@ infixl 10 ◌>>=◌
 abbrev pub ◌>>=◌ : {A B : Type 0} → Option A → (A → Option B) → Option B
 o >>= f = option_and_then f o
 
+-- the first reading, or where it gives nothing the second
+infixl 9 ◌<|>◌
+abbrev pub ◌<|>◌ : {A : Type 0} → Option A → Option A → Option A
+o <|> p = option_or o p
+
 -- what follows the word, where the bytes start with it
 abbrev pub after : List ℕ → List ℕ → Option (List ℕ)
 after word s = pick (bytes_eq (take (length word) s) word) (Some (drop (length word) s)) None
@@ -84,7 +89,7 @@ insert_of s = do
   Some (Update.Insert arguments.0 (record { 0 = arguments.1 }))
 
 abbrev pub update_of : List ℕ → Option Update
-update_of s = option_or (insert_of s) (option_map Update.Delete (argument_of (codes " delete ") s))
+update_of s = insert_of s <|> option_map Update.Delete (argument_of (codes " delete ") s)
 
 -- nothing follows the word
 abbrev pub total_of : List ℕ → Option Query
@@ -92,13 +97,13 @@ total_of s = after (codes " total") s >>= whole Query.Total
 
 abbrev pub query_of : List ℕ → Option Query
 query_of s =
-    option_or (option_map Query.Find (argument_of (codes " find ") s))
-    (option_or (option_map Query.Select (argument_of (codes " select ") s))
-    (option_or (option_map Query.Rank (argument_of (codes " rank ") s))
-    (total_of s)))
+    option_map Query.Find (argument_of (codes " find ") s)
+    <|> option_map Query.Select (argument_of (codes " select ") s)
+    <|> option_map Query.Rank (argument_of (codes " rank ") s)
+    <|> total_of s
 
 abbrev pub operation_of : List ℕ → Option Operation
-operation_of s = option_or (option_map Operation.Update (update_of s)) (option_map Operation.Query (query_of s))
+operation_of s = option_map Operation.Update (update_of s) <|> option_map Operation.Query (query_of s)
 
 -- ---- commands
 
@@ -120,7 +125,7 @@ open_of s = do
   Some (Command.Open sizes.0 sizes.1 sizes.2)
 
 abbrev pub command_of : List ℕ → Option Command
-command_of s = option_or (step_of s) (option_or (start_of s) (open_of s))
+command_of s = step_of s <|> start_of s <|> open_of s
 
 -- the most bytes of a line that can be a command
 abbrev pub longest : ℕ

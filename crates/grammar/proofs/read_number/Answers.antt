@@ -3,7 +3,7 @@
 use Rattle.std.proofs.Common.{arith, ◌≡◌, ◌∙◌, refl, sym, ap, option_map, ℕ, ◌+◌, ◌-◌, ◌≤◌, Bool, true, false, ltb, List, length, Bor}
 use Rattle.std.specs.Bool.{then_some}
 use borrow.Author.Tests.{ltb-true, ltb-false}
-use Rattle.grammar.proofs.Laws.{digits_over, digits_on, digits_stop, digits_done, ten, small, within, none_read}
+use Rattle.grammar.proofs.Digits.{digits_over, digits_on, digits_stop, digits_done, ten, small, within, none_read}
 use Rattle.grammar.specs.Grammar.{number_of, digits, ended, most_digits}
 use Rattle.grammar.proofs.read_number.Goals.{in-Some+then-not-is_ascii_digit, in_default}
 use Rattle.grammar.proofs.read_number.Goals as goal

@@ -1,4 +1,4 @@
--- The digits of a number, one after the other.
+-- The digits of a number, one after the other: what one more makes of those before it, and where they end.
 -- Assumes nothing.
 use mathlib.Core.Path.{◌≡◌, refl}
 use mathlib.Core.List.{List, [], ◌∷◌}
@@ -7,17 +7,12 @@ use Prim.Native.Nat.{ℕ, ◌+◌, ◌-◌, ◌*◌, ◌^◌, ◌≤◌, ◌<◌
 use native.Mathlib.Numerals.{add-one}
 use native.Mathlib.Nat.{pow-suc, pow-le-pow_right}
 use native.Mathlib.Omega.{arith}
-use lib.ListN.{length, drop, get_or}
-use lib.Seq.{drop-cons}
+use lib.ListN.{length}
 use lib.Dec.{leb}
 use borrow.Author.Tests.{lt-leb, le-leb}
 use Rattle.trie.specs.Choice.{pick}
 use Rattle.std.proofs.Common.{Option, Some, None}
 use Rattle.grammar.specs.Grammar.{ended, digits, most_digits}
-
--- the first of what is left
-pub first : (s : List ℕ) (i : ℕ) → i < length s → drop i s ≡ get_or s i 0 ∷ drop (i + 1) s
-first s i h = rw (add-one, drop-cons s i 0)
 
 over : (k v : ℕ) (s : List ℕ) → most_digits < k → ended k v s ≡ None
 unfolding ended
