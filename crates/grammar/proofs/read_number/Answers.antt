@@ -17,8 +17,8 @@ loop-digit-init c =
 pub returns-then-s-rest-eq-MOST_DIGITS : goal.returns-then-s-rest-eq-MOST_DIGITS
 returns-then-s-rest-eq-MOST_DIGITS c =
     let digit = c.in-Some in
-    sym (digits_over 19 _ _ (omega arith))
-    ∙ sym (digits_on _ 19 _ digit.digit.now _ (omega arith) _ _ digit.ensures.cases.0 (sym c.if-not-is_ascii_digit.ensures.value) refl)
+    sym (digits_over (most_digits + 1) _ _ (omega arith))
+    ∙ sym (digits_on _ (most_digits + 1) _ digit.digit.now _ (omega arith) _ _ digit.ensures.cases.0 (sym c.if-not-is_ascii_digit.ensures.value) refl)
     ∙ c.loop-digit.invariant.same
 
 pub overflow_mul-value : goal.overflow_mul-value
