@@ -1,20 +1,11 @@
 -- The text of an answer: `ok`, `on`, `done` with the values, or `refused` and the number; each ends with a newline.
 -- Document 01, "The listing program". Assumes nothing.
-use Rattle.std.specs.Prelude.{◌≡◌, List, [], ◌∷◌, ◌++◌, ℕ, zero, suc, ◌+◌, ◌^◌, ltb, length, codes}
+use Rattle.std.specs.Prelude.{◌≡◌, List, [], ◌∷◌, ◌++◌, ℕ, ◌+◌, length, codes}
+-- numbers are written as `{}` writes them
+pub use Rattle.std.specs.Prelude.{decimal}
 use Rattle.std.proofs.Math.Seq.{paste}
-use Rattle.io.specs.Digits.{last_digits}
 use Rattle.decibel.specs.Told.{Told, refused, gives}
-use Rattle.trie.specs.Choice.{pick}
 use Rattle.trie.specs.Values.{Value, yes', no', none, level, cell, sums, Ok, ok, Course, on, done}
-
--- how many decimal digits n has: the first k from j on with n below 10 ^ k
-unfoldable pub places_from : ℕ → ℕ → ℕ → ℕ
-places_from zero j n = j
-places_from (suc f) j n = pick (ltb n (10 ^ j)) j (places_from f (j + 1) n)
-
--- n in decimal, for n below 10 ^ 20
-unfoldable pub decimal : ℕ → List ℕ
-decimal n = last_digits 10 (places_from 19 1 n) n
 
 abbrev pub newline : List ℕ
 newline = 10 ∷ []
