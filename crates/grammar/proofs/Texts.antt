@@ -3,17 +3,17 @@
 use mathlib.Core.Path.{◌≡◌, refl, sym, ap, ◌∙◌}
 use mathlib.Core.Bool.{Bool, true, false}
 use mathlib.Core.List.{List, ◌∷◌, ◌++◌, append_assoc}
-use Prim.Native.Nat.{ℕ, zero, suc, ◌+◌, ◌-◌, ◌^◌, ◌≤◌, ◌<◌}
-use native.Mathlib.Nat.{pow-le-pow_right, le_trans, add_assoc}
+use Prim.Native.Nat.{ℕ, zero, suc, ◌+◌, ◌-◌, ◌*◌, ◌/◌, ◌%◌, ◌^◌, ◌≤◌, ◌<◌}
+use native.Mathlib.Nat.{pow-suc, pow-le-pow_right, add_assoc}
 use native.Mathlib.Omega.{arith}
-use lib.Dec.{leb, ltb}
+use lib.Dec.{leb}
 use lib.ListN.{length, take, drop, length-append}
 use lib.Seq.{paste, take-paste, drop-paste, drop-drop, take-length}
-use borrow.Author.Tests.{leb-true, leb-false, ltb-true, ltb-false, lt-ltb, le-ltb}
-use Rattle.io.specs.Digits.{IsDigitCount, last_digits}
-use Rattle.trie.specs.Choice.{pick}
+use borrow.Author.Tests.{leb-true, leb-false, lt-ltb}
+use Rattle.std.proofs.lemmas.Fmt.{decimal_step, decimal_digit}
+use Rattle.io.specs.Digits.{IsDigitCount, hex_digit_ascii, last_digits}
 use Rattle.trie.specs.Values.{level, sums}
-use Rattle.grammar.specs.Text.{places_from, decimal, newline, refused_word, done_word, refused_text, value_text, done_text, Put}
+use Rattle.grammar.specs.Text.{decimal, newline, refused_word, done_word, refused_text, value_text, done_text, Put}
 
 pub twenty : (n k : ℕ) → n < 2 ^ 64 → IsDigitCount 10 1 n k → k ≤ 20
 twenty n k h f = go (leb k 20) refl
@@ -26,28 +26,30 @@ twenty n k h f = go (leb k 20) refl
         let q : 10 ^ (k - 1) ≤ n = f.2 (omega arith) in
         omega arith
 
-module _ (j k n r : ℕ) (a : j ≤ k) (h : n < 10 ^ k) (q : j < k → 10 ^ (k - 1) ≤ n) (ih : j < k → r ≡ k) where
-  step : (t : Bool) → ltb j k ≡ t → pick (ltb n (10 ^ j)) j r ≡ k
-  step true e =
-      let l : j < k = ltb-true j k e in
-      let p : 10 ^ j ≤ 10 ^ (k - 1) = pow-le-pow_right {n = 10} (omega arith) {i = j} {j = k - 1} (omega arith) in
-      let m : 10 ^ j ≤ n = le_trans p (q l) in
-      simp (le-ltb n (10 ^ j) m) (ih l)
-  step false e =
-      let l : j ≡ k = omega (arith, ltb-false j k e) in
-      rw l (simp (lt-ltb n (10 ^ k) h))
+glyph : (d : ℕ) → d < 10 → hex_digit_ascii d ≡ 48 + d
+glyph d h = simp (lt-ltb d 10 h)
 
-places : (f j k n : ℕ) → j ≤ k → k ≤ j + f → n < 10 ^ k → (j < k → 10 ^ (k - 1) ≤ n) → places_from f j n ≡ k
-unfolding places_from
-places zero j k n a b h q = omega arith
-places (suc f) j k n a b h q =
-    step j k n (places_from f (j + 1) n) a h q (λ l. places f (j + 1) k n (omega arith) (omega arith) h (λ _. q l)) (ltb j k) refl
+-- a number without its last digit
+below : (k n : ℕ) → n < 10 ^ suc k → n / 10 < 10 ^ k
+below k n h = let p : 10 ^ suc k ≡ 10 * 10 ^ k = rw pow-suc (omega arith) in omega arith
 
+least : (k n : ℕ) → 10 ^ suc k ≤ n → 10 ^ k ≤ n / 10
+least k n h = let p : 10 ^ suc k ≡ 10 * 10 ^ k = rw pow-suc (omega arith) in omega arith
+
+-- the digits of the kit's `io` are those of its `std`
 pub decimal_is : (n k : ℕ) → n < 2 ^ 64 → IsDigitCount 10 1 n k → last_digits 10 k n ≡ decimal n
-unfolding decimal
-decimal_is n k h f =
-    let e : places_from 19 1 n ≡ k = places 19 1 k n f.0 (omega (arith, twenty n k h f)) f.1 f.2 in
-    rw e refl
+decimal_is n zero h f = absurd (omega (arith, f.0))
+decimal_is n (suc zero) h f =
+    let few : n < 10 = f.1 in
+    let last : n % 10 ≡ n = omega arith in
+    simp (last, glyph n few, decimal_digit n few)
+decimal_is n (suc (suc k)) h f =
+    let fewer : suc (suc k) - 1 ≡ suc k = omega arith in
+    let fewest : suc k - 1 ≡ k = omega arith in
+    let many : 10 ^ suc k ≤ n = rw fewer at (f.2 (omega arith)) in
+    let some : 10 ≤ n = omega (arith, pow-le-pow_right {n = 10} (omega arith) {i = 1} {j = suc k} (omega arith)) in
+    let rest : last_digits 10 (suc k) (n / 10) ≡ decimal (n / 10) = decimal_is (n / 10) (suc k) (omega arith) (omega arith, below (suc k) n f.1, λ _. rw fewest (least k n many)) in
+    rw (rest, glyph (n % 10) (omega arith)) (sym (decimal_step n some h))
 
 paste_two : (d s t : List ℕ) (at : ℕ) → at + length s ≤ length d
     → paste (paste d at s (length s)) (at + length s) t (length t) ≡ paste d at (s ++ t) (length (s ++ t))

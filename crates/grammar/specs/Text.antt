@@ -1,42 +1,32 @@
 -- The text of an answer: `ok`, `on`, `done` with the values, or `refused` and the number; each ends with a newline.
 -- Document 01, "The listing program". Assumes nothing.
-use Rattle.std.specs.Prelude.{◌≡◌, List, [], ◌∷◌, ◌++◌, ℕ, zero, suc, ◌+◌, ◌^◌, ltb, length}
+use Rattle.std.specs.Prelude.{◌≡◌, List, [], ◌∷◌, ◌++◌, ℕ, ◌+◌, length, codes}
+-- numbers are written as `{}` writes them
+pub use Rattle.std.specs.Prelude.{decimal}
 use Rattle.std.proofs.Math.Seq.{paste}
-use Rattle.io.specs.Digits.{last_digits}
 use Rattle.decibel.specs.Told.{Told, refused, gives}
-use Rattle.trie.specs.Choice.{pick}
 use Rattle.trie.specs.Values.{Value, yes', no', none, level, cell, sums, Ok, ok, Course, on, done}
-
--- how many decimal digits n has: the first k from j on with n below 10 ^ k
-unfoldable pub places_from : ℕ → ℕ → ℕ → ℕ
-places_from zero j n = j
-places_from (suc f) j n = pick (ltb n (10 ^ j)) j (places_from f (j + 1) n)
-
--- n in decimal, for n below 10 ^ 20
-unfoldable pub decimal : ℕ → List ℕ
-decimal n = last_digits 10 (places_from 19 1 n) n
 
 abbrev pub newline : List ℕ
 newline = 10 ∷ []
 
--- "ok", "on", "done " and "refused "
 abbrev pub ok_word : List ℕ
-ok_word = 111 ∷ 107 ∷ []
+ok_word = codes "ok"
 
 abbrev pub on_word : List ℕ
-on_word = 111 ∷ 110 ∷ []
+on_word = codes "on"
 
 abbrev pub done_word : List ℕ
-done_word = 100 ∷ 111 ∷ 110 ∷ 101 ∷ 32 ∷ []
+done_word = codes "done "
 
 abbrev pub refused_word : List ℕ
-refused_word = 114 ∷ 101 ∷ 102 ∷ 117 ∷ 115 ∷ 101 ∷ 100 ∷ 32 ∷ []
+refused_word = codes "refused "
 
--- "yes", "no", "none", a number, or count then energy
+-- the values that a step gives; of a sum its count, and then its energy
 unfoldable pub value_text : Value → List ℕ
-value_text yes' = 121 ∷ 101 ∷ 115 ∷ []
-value_text no' = 110 ∷ 111 ∷ []
-value_text none = 110 ∷ 111 ∷ 110 ∷ 101 ∷ []
+value_text yes' = codes "yes"
+value_text no' = codes "no"
+value_text none = codes "none"
 value_text (level l) = decimal l
 value_text (cell k) = decimal k
 value_text (sums count energy) = decimal count ++ (32 ∷ decimal energy)

@@ -4,17 +4,17 @@ use mathlib.Core.Path.{◌≡◌, sym, ap, ◌∙◌}
 use mathlib.Core.Bool.{Bool, true, false}
 use Prim.Native.Nat.{ℕ, ◌≤◌, ◌<◌}
 use borrow.Author.Tests.{le-leb, lt-leb}
+use Rattle.std.proofs.Common.{Option, Some}
 use Rattle.grammar.specs.declared.Command.{Command}
-use Rattle.grammar.specs.declared.Line.{Line}
 use Rattle.trie.specs.declared.Operation.{Operation}
 use Rattle.trie.specs.Choice.{pick}
 use Rattle.lines.specs.declared.History.{History}
 use Rattle.lines.specs.Watch.{most_cells, opened}
 use Rattle.lines.specs.Calling.{words_of, no_operation, call, refusal, call_of}
 
-module _ (line : Line) (command : Command) (h : History) (p : line ≡ Line.Is command) where
-  of_line : (d : Command) → command ≡ d → call_of (Line.Is d) h ≡ call_of line h
-  of_line d q = ap (λ (l : Line). call_of l h) (ap Line.Is (sym q) ∙ sym p)
+module _ (line : Option Command) (command : Command) (h : History) (p : line ≡ Some command) where
+  of_line : (d : Command) → command ≡ d → call_of (Some d) h ≡ call_of line h
+  of_line d q = ap (λ (l : Option Command). call_of l h) (ap Some (sym q) ∙ sym p)
 
   module _ (i : ℕ) (q : command ≡ Command.Step i) where
     pub step_refused : refusal 10 ≡ call_of line h

@@ -9,8 +9,8 @@ use borrow.Author.Tests.{eq-eqb, ne_eqb, lt-ltb, le-leb, lt-leb, leb-true, leb-f
 use lib.Dec.{eqb, ltb, leb}
 use lib.ListN.{length, take, drop, get_or, length-append, take-append-drop, drop_of_length-le, length-drop, length-take}
 use lib.Seq.{paste, take-suc, get_or-drop, drop-drop, take-length, take-paste, drop-paste, length-take-le}
+use Rattle.std.proofs.lemmas.List.{drop_more}
 use Rattle.grammar.specs.Grammar.{longest, line_of}
-use Rattle.grammar.proofs.Laws.{first}
 use Rattle.trie.specs.Choice.{pick}
 use Rattle.lines.specs.declared.Begun.{Begun}
 use Rattle.grammar.specs.Text.{Put}
@@ -109,7 +109,7 @@ module _ (chunk : List ℕ) (i e : ℕ) (h : Ends chunk i e) (p : Part) (s : Wat
   pub served_line : e < length chunk → served_of (ended (line_turn (line_at (grown p xs)) s) w) (drop (e + 1) chunk) ≡ served_of (listing p s w) (drop i chunk)
   served_line l =
       sym (ap (served_of (listing p s w)) cut ∙ served_plain xs (drop e chunk) p s w h.bytes
-      ∙ ap (served_of (listing (grown p xs) s w)) (first chunk e l) ∙ served_newline (drop (e + 1) chunk) (get_or chunk e 0) (grown p xs) s w (h.newline l))
+      ∙ ap (served_of (listing (grown p xs) s w)) (drop_more chunk e 0 l) ∙ served_newline (drop (e + 1) chunk) (get_or chunk e 0) (grown p xs) s w (h.newline l))
 
   pub served_rest : length chunk ≤ e → listing (grown p xs) s w ≡ served_of (listing p s w) (drop i chunk)
   unfolding served_of

@@ -9,8 +9,8 @@ use native.Mathlib.Omega.{arith}
 use borrow.Author.Tests.{ne_eqb}
 use lib.ListN.{length, take, drop, length-drop}
 use lib.Seq.{take_all}
+use Rattle.std.proofs.Common.{Option, Some, None}
 use Rattle.grammar.specs.declared.Command.{Command}
-use Rattle.grammar.specs.declared.Line.{Line}
 use Rattle.trie.specs.declared.Progress.{Progress}
 use Rattle.trie.specs.declared.Worker.{Worker}
 use Rattle.trie.specs.Choice.{pick}
@@ -49,7 +49,7 @@ keeps_later begun chunk from n =
 
 -- a short step, and any other line
 pub placed_short : (chunk : List ℕ) (from : ℕ) (h : History) (at k e : ℕ) (r : Short) → Found chunk from r → r ≡ Short.Step k e
-    → Placed chunk from h at (record { line = Line.Is (Command.Step k); from = from; end = e; history = h; filled = at })
+    → Placed chunk from h at (record { line = Some (Command.Step k); from = from; end = e; history = h; filled = at })
 placed_short chunk from h at k e r f q =
     let g : Found chunk from (Short.Step k e) = subst (Found chunk from) q f in
     record { begins = refl; history = refl; filled = refl; ends = g.0; line = sym g.2 }
@@ -64,29 +64,29 @@ pub follows_none : (chunk : List ℕ) (from at : ℕ) (r : Run) → r ≡ record
 follows_none chunk from at r p = subst (Follows chunk from at) (sym p) (record { begins = refl; filled = refl; step = λ z. absurd (not_both z) })
 
 -- the run that a line begins
-pub run_of_lem : (p : Place) (l : Line) → p.line ≡ l → run_by l p ≡ run_of p
-run_of_lem p l e = ap (λ (x : Line). run_by x p) (sym e)
+pub run_of_lem : (p : Place) (l : Option Command) → p.line ≡ l → run_by l p ≡ run_of p
+run_of_lem p l e = ap (λ (x : Option Command). run_by x p) (sym e)
 
-pub run_open : (p : Place) (i : ℕ) (t : Bool) → t ≡ opened p.history → ◌≡◌ {A = Run} (record { number = i; from = p.from; end = p.end; filled = p.filled; on = t }) (run_by (Line.Is (Command.Step i)) p)
+pub run_open : (p : Place) (i : ℕ) (t : Bool) → t ≡ opened p.history → ◌≡◌ {A = Run} (record { number = i; from = p.from; end = p.end; filled = p.filled; on = t }) (run_by (Some (Command.Step i)) p)
 run_open p i t e = ap (λ (b : Bool). record { number = i; from = p.from; end = p.end; filled = p.filled; on = b }) e
 
-pub run_by_lem : (l : Line) (p : Place) → (run_by l p).on ≡ stepping l p.history
-run_by_lem (Line.Is (Command.Step i)) p = refl
-run_by_lem (Line.Is (Command.Start i o)) p = refl
-run_by_lem (Line.Is (Command.Open n w v)) p = refl
-run_by_lem Line.Not p = refl
+pub run_by_lem : (l : Option Command) (p : Place) → (run_by l p).on ≡ stepping l p.history
+run_by_lem (Some (Command.Step i)) p = refl
+run_by_lem (Some (Command.Start i o)) p = refl
+run_by_lem (Some (Command.Open n w v)) p = refl
+run_by_lem None p = refl
 
-pub on_opened : (l : Line) (p : Place) → (run_by l p).on ≡ true → opened p.history ≡ true
-on_opened (Line.Is (Command.Step i)) p e = e
-on_opened (Line.Is (Command.Start i o)) p e = absurd (not_both e)
-on_opened (Line.Is (Command.Open n w v)) p e = absurd (not_both e)
-on_opened Line.Not p e = absurd (not_both e)
+pub on_opened : (l : Option Command) (p : Place) → (run_by l p).on ≡ true → opened p.history ≡ true
+on_opened (Some (Command.Step i)) p e = e
+on_opened (Some (Command.Start i o)) p e = absurd (not_both e)
+on_opened (Some (Command.Open n w v)) p e = absurd (not_both e)
+on_opened None p e = absurd (not_both e)
 
-pub run_from : (l : Line) (p : Place) → (run_by l p).from ≡ p.from
-run_from (Line.Is (Command.Step i)) p = refl
-run_from (Line.Is (Command.Start i o)) p = refl
-run_from (Line.Is (Command.Open n w v)) p = refl
-run_from Line.Not p = refl
+pub run_from : (l : Option Command) (p : Place) → (run_by l p).from ≡ p.from
+run_from (Some (Command.Step i)) p = refl
+run_from (Some (Command.Start i o)) p = refl
+run_from (Some (Command.Open n w v)) p = refl
+run_from None p = refl
 
 -- a run goes on behind a step
 pub steady_on : (chunk out out' : List ℕ) (progress : Progress) (r q : Run) → Steady chunk r → r.on ≡ true → Passes progress r chunk out out' q → Steady chunk q
@@ -125,7 +125,7 @@ module _ (begun : Begun) (chunk : List ℕ) where
         let z = g.placed.begins in
         let b : upto [] ≡ before begun r.from = sym (before_later begun r.from (omega (arith, z))) in
         let goes = line_answered chunk p.from e q.ends l (before begun p.from) s (turned turn nodes' versions' board') out out' p.filled r.filled f
-        (a ∙ ap (λ (x : Line). line_turn x s) q.line) g.put in
+        (a ∙ ap (λ (x : Option Command). line_turn x s) q.line) g.put in
         record {
           ends = subst (λ (i : ℕ). Ends chunk i r.end) (sym z) g.placed.ends;
           line =
@@ -140,20 +140,20 @@ module _ (begun : Begun) (chunk : List ℕ) where
     pub run_begins : (p : Place) (s : Watch) (out : List ℕ) → Runs begun chunk s₀ out₀ p s out → Ran begun chunk s₀ out₀ (run_of p) s out
     run_begins p s out q = by p.line q.line
       where
-        by : (l : Line) → l ≡ line_at (grown (before begun p.from) (between chunk p.from p.end)) → Ran begun chunk s₀ out₀ (run_by l p) s out
-        by (Line.Is (Command.Step i)) e = record { step = λ _. (q.ends, sym e); same = q.same; behind = q.behind }
-        by (Line.Is (Command.Start i o)) e = record { step = λ z. absurd (not_both z); same = q.same; behind = q.behind }
-        by (Line.Is (Command.Open n w v)) e = record { step = λ z. absurd (not_both z); same = q.same; behind = q.behind }
-        by Line.Not e = record { step = λ z. absurd (not_both z); same = q.same; behind = q.behind }
+        by : (l : Option Command) → l ≡ line_at (grown (before begun p.from) (between chunk p.from p.end)) → Ran begun chunk s₀ out₀ (run_by l p) s out
+        by (Some (Command.Step i)) e = record { step = λ _. (q.ends, sym e); same = q.same; behind = q.behind }
+        by (Some (Command.Start i o)) e = record { step = λ z. absurd (not_both z); same = q.same; behind = q.behind }
+        by (Some (Command.Open n w v)) e = record { step = λ z. absurd (not_both z); same = q.same; behind = q.behind }
+        by None e = record { step = λ z. absurd (not_both z); same = q.same; behind = q.behind }
 
     pub run_steady : (p : Place) (s : Watch) (out : List ℕ) → Runs begun chunk s₀ out₀ p s out → p.end < length chunk → Steady chunk (run_of p)
     run_steady p s out q h = by p.line
       where
-        by : (l : Line) → Steady chunk (run_by l p)
-        by (Line.Is (Command.Step i)) = record { within = omega (arith, q.ends.onward, h); room = q.room; ahead = λ _. (q.ends.onward, h) }
-        by (Line.Is (Command.Start i o)) = record { within = omega (arith, q.ends.onward, h); room = q.room; ahead = λ _. (q.ends.onward, h) }
-        by (Line.Is (Command.Open n w v)) = record { within = omega (arith, q.ends.onward, h); room = q.room; ahead = λ _. (q.ends.onward, h) }
-        by Line.Not = record { within = omega (arith, q.ends.onward, h); room = q.room; ahead = λ _. (q.ends.onward, h) }
+        by : (l : Option Command) → Steady chunk (run_by l p)
+        by (Some (Command.Step i)) = record { within = omega (arith, q.ends.onward, h); room = q.room; ahead = λ _. (q.ends.onward, h) }
+        by (Some (Command.Start i o)) = record { within = omega (arith, q.ends.onward, h); room = q.room; ahead = λ _. (q.ends.onward, h) }
+        by (Some (Command.Open n w v)) = record { within = omega (arith, q.ends.onward, h); room = q.room; ahead = λ _. (q.ends.onward, h) }
+        by None = record { within = omega (arith, q.ends.onward, h); room = q.room; ahead = λ _. (q.ends.onward, h) }
 
     -- a step of a run, its answer written, and the run behind it
     pub step_more : (h : History) (r q : Run) (progress : Progress) (nodes versions nodes' part out out' : List ℕ) (board board' : List Worker)
@@ -170,7 +170,7 @@ module _ (begun : Begun) (chunk : List ℕ) where
         let z = g.follows.begins in
         let b : upto [] ≡ before begun q.from = sym (before_later begun q.from (omega (arith, z))) in
         let goes = line_answered chunk r.from e at.0 (steady.ahead on).1 (before begun r.from) s (answered (course_text (progress_of progress)) s') out out' r.filled q.filled f
-        (step_taken h nodes versions board r.number progress nodes' part board' under a ∙ ap (λ (x : Line). line_turn x s) (sym at.1)) g.put in
+        (step_taken h nodes versions board r.number progress nodes' part board' under a ∙ ap (λ (x : Option Command). line_turn x s) (sym at.1)) g.put in
         record {
           step = λ more. (
             subst (λ (i : ℕ). Ends chunk i q.end) (sym z) (g.follows.step more).0,

@@ -5,13 +5,13 @@ use mathlib.Core.Bool.{Bool, true, false, ◌&&◌}
 use mathlib.Core.List.{List, [], ◌∷◌}
 use Prim.Native.Nat.{ℕ, ◌+◌, ◌*◌, ◌-◌, ◌≤◌}
 use native.Mathlib.Omega.{arith}
-use borrow.Author.Tests.{eqb-true, ne_eqb, le-ltb, leb-true, ltb-false}
+use borrow.Author.Tests.{eqb-true, ne_eqb, le-leb, leb-true, ltb-false}
 use lib.Dec.{eqb, leb, ltb}
 use lib.ListN.{length, take, drop, get_or, length-drop}
 use lib.Seq.{get_or-drop}
+use Rattle.std.proofs.Common.{Some}
 use Rattle.grammar.specs.declared.Command.{Command}
-use Rattle.grammar.specs.declared.Line.{Line}
-use Rattle.grammar.specs.Grammar.{starts, ended, digits, number_of, one_of, command_of, line_of}
+use Rattle.grammar.specs.Grammar.{ended, digits, number_of, line_of}
 use Rattle.trie.specs.Choice.{pick}
 use Rattle.trie.proofs.SizeLaws.{and_first, and_second}
 use Rattle.lines.specs.declared.short.Short.{Short}
@@ -39,13 +39,13 @@ seven (a ∷ b ∷ c ∷ d ∷ e ∷ f ∷ g ∷ l) h = refl
 
 -- ---- the line that the bytes make
 
-one_line : (d : ℕ) → 48 ≤ d → d ≤ 57 → line_of (115 ∷ 116 ∷ 101 ∷ 112 ∷ 32 ∷ d ∷ []) ≡ Line.Is (Command.Step (d - 48))
-unfolding line_of command_of starts one_of number_of digits ended
-one_line d lo hi = simp (le-ltb d 48 lo, le-ltb 57 d hi) (ap (λ (k : ℕ). Line.Is (Command.Step k)) (omega arith))
+one_line : (d : ℕ) → 48 ≤ d → d ≤ 57 → line_of (115 ∷ 116 ∷ 101 ∷ 112 ∷ 32 ∷ d ∷ []) ≡ Some (Command.Step (d - 48))
+unfolding line_of number_of digits ended
+one_line d lo hi = simp (le-leb 48 d lo, le-leb d 57 hi) (ap (λ (k : ℕ). Some (Command.Step k)) (omega arith))
 
-two_line : (d f : ℕ) → 48 ≤ d → d ≤ 57 → 48 ≤ f → f ≤ 57 → line_of (115 ∷ 116 ∷ 101 ∷ 112 ∷ 32 ∷ d ∷ f ∷ []) ≡ Line.Is (Command.Step (10 * (d - 48) + (f - 48)))
-unfolding line_of command_of starts one_of number_of digits ended
-two_line d f lo hi lo' hi' = simp (le-ltb d 48 lo, le-ltb 57 d hi, le-ltb f 48 lo', le-ltb 57 f hi') (ap (λ (k : ℕ). Line.Is (Command.Step k)) (omega arith))
+two_line : (d f : ℕ) → 48 ≤ d → d ≤ 57 → 48 ≤ f → f ≤ 57 → line_of (115 ∷ 116 ∷ 101 ∷ 112 ∷ 32 ∷ d ∷ f ∷ []) ≡ Some (Command.Step (10 * (d - 48) + (f - 48)))
+unfolding line_of number_of digits ended
+two_line d f lo hi lo' hi' = simp (le-leb 48 d lo, le-leb d 57 hi, le-leb 48 f lo', le-leb f 57 hi') (ap (λ (k : ℕ). Some (Command.Step k)) (omega arith))
 
 one_plain : (d : ℕ) → 48 ≤ d → plain (115 ∷ 116 ∷ 101 ∷ 112 ∷ 32 ∷ d ∷ []) ≡ true
 unfolding plain

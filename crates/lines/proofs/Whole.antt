@@ -7,7 +7,8 @@ use Prim.Native.Nat.{ℕ, ◌+◌}
 use native.Mathlib.Omega.{arith}
 use lib.Dec.{eqb, leb, eqb-suc-zero}
 use lib.ListN.{length, take, drop}
-use Rattle.grammar.specs.declared.Line.{Line}
+use Rattle.std.proofs.Common.{Option, None}
+use Rattle.grammar.specs.declared.Command.{Command}
 use Rattle.grammar.specs.Grammar.{longest, line_of}
 use Rattle.trie.specs.Choice.{pick}
 use Rattle.lines.specs.Watch.{Watch}
@@ -22,7 +23,7 @@ use Rattle.lines.proofs.Cuts.{served_two, served_behind, served_fits}
 abbrev closing : Part → Watch → List ℕ
 closing (upto []) s = []
 closing (upto (b ∷ bs)) s = (line_turn (line_of (b ∷ bs)) s).text
-closing over s = (line_turn Line.Not s).text
+closing over s = (line_turn None s).text
 
 abbrev closed : Listing → List ℕ
 closed l = l.written ++ closing l.part l.watch
@@ -98,7 +99,7 @@ closing_last (b ∷ bs) s =
     by : (t : Bool) → leb (length {A = ℕ} [] + length (b ∷ bs)) longest ≡ t → closing (pick t (upto (b ∷ bs)) over) s ≡ (line_turn (line_of (b ∷ bs)) s).text
     by true e = refl
     by false e =
-        ap (λ (l : Line). (line_turn l s).text)
+        ap (λ (l : Option Command). (line_turn l s).text)
         (ap (λ (t : Bool). line_at (pick t (upto (b ∷ bs)) over)) (sym e) ∙ ap line_at (sym (grown_is [] (b ∷ bs) (omega arith))) ∙ line_whole (b ∷ bs))
 
 -- a newline: the line's answer, and then those of the lines behind it
@@ -108,7 +109,7 @@ unfolding answers_of
 at_newline input begun s a e behind =
     closed_behind input (upto []) a.watch a.text
     ∙ ap (λ (x : List ℕ). a.text ++ x) behind
-    ∙ ap (λ (t : Answered). t.text ++ answers_of t.watch (lines_from [] input)) (e ∙ ap (λ (l : Line). line_turn l s) (line_whole begun))
+    ∙ ap (λ (t : Answered). t.text ++ answers_of t.watch (lines_from [] input)) (e ∙ ap (λ (l : Option Command). line_turn l s) (line_whole begun))
 
 -- one byte more: a newline, or a byte of the line that is begun
 at_byte : (t : Bool) (b : ℕ) (input begun : List ℕ) (s : Watch) (a : Answered) → a ≡ line_turn (line_at (grown (upto []) begun)) s

@@ -1,8 +1,7 @@
 -- The call that a line makes, as the code has it: its kind, the number that it names, and the words of the version table that it is lent.
 -- Kinds: 2 a start, 3 an open; 0 is a refusal, and its number is the refusal's. Assumes nothing.
-use Rattle.std.specs.Prelude.{Bool, false, ℕ, ◌*◌, leb}
+use Rattle.std.specs.Prelude.{Bool, false, ℕ, ◌*◌, leb, Option, Some, None}
 use Rattle.grammar.specs.declared.Command.{Command}
-use Rattle.grammar.specs.declared.Line.{Line}
 use Rattle.trie.specs.declared.Accepted.{Accepted}
 use Rattle.trie.specs.declared.Operation.{Operation}
 use Rattle.trie.specs.declared.Query.{Query}
@@ -28,33 +27,33 @@ abbrev pub refusal : ℕ → Call
 refusal number = call 0 number 0 no_operation
 
 -- a step of the history under way, which is served in a run of steps and makes no call here
-abbrev pub stepping : Line → History → Bool
-stepping (Line.Is (Command.Step i)) h = opened h
-stepping (Line.Is (Command.Start i o)) h = false
-stepping (Line.Is (Command.Open n w v)) h = false
-stepping Line.Not h = false
+abbrev pub stepping : Option Command → History → Bool
+stepping (Some (Command.Step i)) h = opened h
+stepping (Some (Command.Start i o)) h = false
+stepping (Some (Command.Open n w v)) h = false
+stepping None h = false
 
-unfoldable pub call_of : Line → History → Call
-call_of (Line.Is (Command.Step i)) h = refusal 10
-call_of (Line.Is (Command.Start i o)) h = pick (opened h) (call 2 i (words_of h.versions) o) (refusal 10)
-call_of (Line.Is (Command.Open n w v)) h = pick (leb n most_cells) (call 3 n (words_of v) no_operation) (refusal 1)
-call_of Line.Not h = refusal 10
+unfoldable pub call_of : Option Command → History → Call
+call_of (Some (Command.Step i)) h = refusal 10
+call_of (Some (Command.Start i o)) h = pick (opened h) (call 2 i (words_of h.versions) o) (refusal 10)
+call_of (Some (Command.Open n w v)) h = pick (leb n most_cells) (call 3 n (words_of v) no_operation) (refusal 1)
+call_of None h = refusal 10
 
 -- the W that an open asks for
-abbrev pub crew_of : Line → ℕ
-crew_of (Line.Is (Command.Step i)) = 0
-crew_of (Line.Is (Command.Start i o)) = 0
-crew_of (Line.Is (Command.Open n w v)) = w
-crew_of Line.Not = 0
+abbrev pub crew_of : Option Command → ℕ
+crew_of (Some (Command.Step i)) = 0
+crew_of (Some (Command.Start i o)) = 0
+crew_of (Some (Command.Open n w v)) = w
+crew_of None = 0
 
 -- the N, W and V that an open asks for
-abbrev pub asked_by : Line → History → History
-asked_by (Line.Is (Command.Step i)) h = h
-asked_by (Line.Is (Command.Start i o)) h = h
-asked_by (Line.Is (Command.Open n w v)) h = history n w v
-asked_by Line.Not h = h
+abbrev pub asked_by : Option Command → History → History
+asked_by (Some (Command.Step i)) h = h
+asked_by (Some (Command.Start i o)) h = h
+asked_by (Some (Command.Open n w v)) h = history n w v
+asked_by None h = h
 
 -- they are kept only where the open is accepted
-abbrev pub kept_by : Accepted → Line → History → History
+abbrev pub kept_by : Accepted → Option Command → History → History
 kept_by (Accepted.Refused number) line h = h
 kept_by Accepted.Ok line h = asked_by line h

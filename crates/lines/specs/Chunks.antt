@@ -1,8 +1,8 @@
 -- What the bytes of the input do, one after the other: a newline ends a line, and any other byte goes into the line that is begun.
 -- Document 01, "The listing program". Assumes nothing.
-use Rattle.std.specs.Prelude.{List, [], ◌∷◌, ◌++◌, ℕ, ◌+◌, eqb, ltb, leb, length, take, drop, replicate}
+use Rattle.std.specs.Prelude.{List, [], ◌∷◌, ◌++◌, ℕ, ◌+◌, eqb, ltb, leb, length, take, drop, replicate, Option, None}
 use Rattle.std.proofs.Math.Seq.{paste}
-use Rattle.grammar.specs.declared.Line.{Line}
+use Rattle.grammar.specs.declared.Command.{Command}
 use Rattle.grammar.specs.Grammar.{longest, line_of}
 use Rattle.trie.specs.Choice.{pick}
 use Rattle.lines.specs.declared.Begun.{Begun}
@@ -20,9 +20,9 @@ more (upto l) b = pick (ltb (length l) longest) (upto (l ++ (b ∷ []))) over
 more over b = over
 
 -- the line, once it has ended; one that is too long is no command, whatever its bytes are
-abbrev pub line_at : Part → Line
+abbrev pub line_at : Part → Option Command
 line_at (upto l) = line_of l
-line_at over = Line.Not
+line_at over = None
 
 -- where a listing stands: the line that is begun, what is kept, and all that has been written
 pub record Listing : Type 0 where

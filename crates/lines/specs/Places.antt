@@ -1,8 +1,7 @@
 -- The places of a chunk: the line that is next, where it begins and ends, and how far the lines before it are served.
 -- Assumes nothing.
-use Rattle.std.specs.Prelude.{◌≡◌, Bool, true, false, ◌&&◌, List, [], ℕ, ◌+◌, ◌*◌, ◌-◌, ◌≤◌, ◌<◌, eqb, leb, length, take, drop, get_or}
+use Rattle.std.specs.Prelude.{◌≡◌, Bool, true, false, ◌&&◌, List, [], ℕ, ◌+◌, ◌*◌, ◌-◌, ◌≤◌, ◌<◌, eqb, leb, length, take, drop, get_or, Option, Some, None}
 use Rattle.grammar.specs.declared.Command.{Command}
-use Rattle.grammar.specs.declared.Line.{Line}
 use Rattle.grammar.specs.Grammar.{line_of}
 use Rattle.lines.specs.declared.Begun.{Begun}
 use Rattle.lines.specs.declared.History.{History}
@@ -32,7 +31,7 @@ digit_of x = pick (leb 48 x && leb x 57) (x - 48) 10
 -- a short step is the line from i on, and its newline is in the chunk
 abbrev pub Found : List ℕ → ℕ → Short → Type 0
 Found chunk i Short.Not = Unit {0}
-Found chunk i (Short.Step k e) = Ends chunk i e × (e < length chunk) × (line_of (between chunk i e) ≡ Line.Is (Command.Step k))
+Found chunk i (Short.Step k e) = Ends chunk i e × (e < length chunk) × (line_of (between chunk i e) ≡ Some (Command.Step k))
 
 -- the place of a line that lies whole in the chunk
 pub record Placed (chunk : List ℕ) (from : ℕ) (h : History) (at : ℕ) (p : Place) : Type 0 where
@@ -71,11 +70,11 @@ pub record Closes (begun : Begun) (chunk : List ℕ) (s₀ : Watch) (out₀ : Li
 
 -- ---- runs of steps
 
-abbrev pub run_by : Line → Place → Run
-run_by (Line.Is (Command.Step i)) p = record { number = i; from = p.from; end = p.end; filled = p.filled; on = opened p.history }
-run_by (Line.Is (Command.Start i o)) p = record { number = 0; from = p.from; end = p.end; filled = p.filled; on = false }
-run_by (Line.Is (Command.Open n w v)) p = record { number = 0; from = p.from; end = p.end; filled = p.filled; on = false }
-run_by Line.Not p = record { number = 0; from = p.from; end = p.end; filled = p.filled; on = false }
+abbrev pub run_by : Option Command → Place → Run
+run_by (Some (Command.Step i)) p = record { number = i; from = p.from; end = p.end; filled = p.filled; on = opened p.history }
+run_by (Some (Command.Start i o)) p = record { number = 0; from = p.from; end = p.end; filled = p.filled; on = false }
+run_by (Some (Command.Open n w v)) p = record { number = 0; from = p.from; end = p.end; filled = p.filled; on = false }
+run_by None p = record { number = 0; from = p.from; end = p.end; filled = p.filled; on = false }
 
 -- the run that the line at a place begins: it is on where the line is a step of the history under way
 abbrev pub run_of : Place → Run
@@ -85,7 +84,7 @@ run_of p = run_by p.line p
 pub record Follows (chunk : List ℕ) (from at : ℕ) (r : Run) : Type 0 where
   pub begins : r.from ≡ from
   pub filled : r.filled ≡ at
-  pub step : r.on ≡ true → Ends chunk from r.end × (r.end < length chunk) × (line_of (between chunk from r.end) ≡ Line.Is (Command.Step r.number))
+  pub step : r.on ≡ true → Ends chunk from r.end × (r.end < length chunk) × (line_of (between chunk from r.end) ≡ Some (Command.Step r.number))
 
 -- a step's answer is written, and the run goes on behind its line
 pub record Passes (progress : Progress) (r : Run) (chunk out out' : List ℕ) (q : Run) : Type 0 where
@@ -101,6 +100,6 @@ pub record Steady (chunk : List ℕ) (r : Run) : Type 0 where
 
 -- the lines before a run's step are served, as `Runs` has it for a place
 pub record Ran (begun : Begun) (chunk : List ℕ) (s₀ : Watch) (out₀ : List ℕ) (r : Run) (s : Watch) (out : List ℕ) : Type 0 where
-  pub step : r.on ≡ true → Ends chunk r.from r.end × (line_at (grown (before begun r.from) (between chunk r.from r.end)) ≡ Line.Is (Command.Step r.number))
+  pub step : r.on ≡ true → Ends chunk r.from r.end × (line_at (grown (before begun r.from) (between chunk r.from r.end)) ≡ Some (Command.Step r.number))
   pub same : served_of (listing (before begun r.from) s (take r.filled out)) (drop r.from chunk) ≡ served_of (listing (part_of begun) s₀ []) chunk
   pub behind : drop r.filled out ≡ drop r.filled out₀

@@ -1,9 +1,8 @@
 -- What one line does: its text, and what is kept after it.
 -- Document 01, "The listing program". Assumes nothing.
-use Rattle.std.specs.Prelude.{List, ℕ, leb}
+use Rattle.std.specs.Prelude.{List, ℕ, leb, Option, Some, None}
 use Rattle.decibel.specs.Told.{Told, refused, gives}
 use Rattle.grammar.specs.declared.Command.{Command}
-use Rattle.grammar.specs.declared.Line.{Line}
 use Rattle.trie.specs.declared.Operation.{Operation}
 use Rattle.trie.specs.declared.Worker.{Worker}
 use Rattle.trie.specs.Choice.{pick}
@@ -56,11 +55,11 @@ step_line i s =
     pick (opened s.history) (steps s (step_of s.history.cells s.history.workers i (lent s.history.versions s))) (refuses 10 s)
 
 -- a line that is no command gives 10
-unfoldable pub line_turn : Line → Watch → Answered
-line_turn (Line.Is (Command.Step i)) s = step_line i s
-line_turn (Line.Is (Command.Start i o)) s = start_line i o s
-line_turn (Line.Is (Command.Open n w v)) s = open_line n w v s
-line_turn Line.Not s = refuses 10 s
+unfoldable pub line_turn : Option Command → Watch → Answered
+line_turn (Some (Command.Step i)) s = step_line i s
+line_turn (Some (Command.Start i o)) s = start_line i o s
+line_turn (Some (Command.Open n w v)) s = open_line n w v s
+line_turn None s = refuses 10 s
 
 -- a turn of the code, with the tables and the board after it
 abbrev pub turned : Turn → List ℕ → List ℕ → List Worker → Answered

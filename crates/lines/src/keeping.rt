@@ -6,7 +6,7 @@ ghost use Rattle.lines.specs.Feeding.{grown, before};
 
 use crate::text::put;
 use crate::{Begun, Place};
-use grammar::{LONGEST_LINE, Line};
+use grammar::{Command, LONGEST_LINE};
 
 // No line is begun.
 pub(crate) fn blank() -> Begun
@@ -44,11 +44,11 @@ pub(crate) fn keep(old: [u8; LONGEST_LINE], held: usize, s: &[u8]) -> Begun
 }
 
 // The line that was begun, now that it has ended.
-pub(crate) fn begun_line(bytes: [u8; LONGEST_LINE], held: usize) -> Line
+pub(crate) fn begun_line(bytes: [u8; LONGEST_LINE], held: usize) -> Option<Command>
     ensures { result ≡ line_at (part_of (record { bytes = bytes; held = held })) }
 {
     if LONGEST_LINE < held {
-        return Line::Not;
+        return None;
     }
     grammar::parse(&bytes[..held])
 }

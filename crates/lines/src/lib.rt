@@ -13,7 +13,7 @@ mod turns;
 
 pub use chunks::{finish, serve};
 pub use grammar::LONGEST_LINE;
-use grammar::Line;
+use grammar::Command;
 use trie::{Accepted, MOST_WORKERS, Operation, Progress, Worker};
 
 // The most cells and the most versions of a history here, fewer than elsewhere; and tables with room for them.
@@ -66,7 +66,7 @@ pub struct Turn {
 // The line that is next, where it begins and ends, the history before it, and where the text of the answers ends.
 #[derive(Clone, Copy)]
 pub struct Place {
-    pub line: Line,
+    pub line: Option<Command>,
     pub from: usize,
     pub end: usize,
     pub history: History,

@@ -8,7 +8,7 @@ use crate::keeping::{begun_line, keep};
 use crate::short::{Short, short_step};
 use crate::text::put_reply;
 use crate::{Begun, History, Place, Run, Turn};
-use grammar::{Command, Line};
+use grammar::Command;
 
 // Where the line ends that is at `from`.
 fn line_end(chunk: &[u8], from: usize) -> usize
@@ -47,7 +47,7 @@ fn place_at(chunk: &[u8], from: usize, h: History, filled: usize) -> Place
 {
     match short_step(chunk, from) {
         Short::Step(k, e) => Place {
-            line: Line::Is(Command::Step(k)),
+            line: Some(Command::Step(k)),
             from: from,
             end: e,
             history: h,
@@ -82,7 +82,7 @@ pub(crate) fn is_ended(p: Place, length: usize) -> bool
     p.end < length
 }
 
-pub(crate) fn next_line(p: Place) -> Line
+pub(crate) fn next_line(p: Place) -> Option<Command>
     ensures { result ≡ p.line }
 {
     p.line

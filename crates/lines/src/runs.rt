@@ -10,7 +10,7 @@ use crate::histories::{cells_of, is_open, lent_words, workers_of};
 use crate::short::{Short, short_step};
 use crate::text::put_progress;
 use crate::{History, Place, Run};
-use grammar::{Command, Line};
+use grammar::Command;
 use trie::{Progress, Worker};
 
 // The run that the line at a place begins: it is on where the line is a step of the history under way.
@@ -19,7 +19,7 @@ pub(crate) fn first_run(p: Place) -> Run
 {
     let line = p.line;
     let h = p.history;
-    let Line::Is(command) = line else {
+    let Some(command) = line else {
         return run(0, p.from, p.end, p.filled, false);
     };
     match command {

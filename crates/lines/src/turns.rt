@@ -7,7 +7,7 @@ ghost use Rattle.lines.specs.Calling.{no_operation, call, refusal, stepping, cal
 
 use crate::histories::{cells_of, is_open, words, workers_of};
 use crate::{Call, History, LISTED_CELLS, Reply, Turn};
-use grammar::{Command, Line};
+use grammar::Command;
 use trie::{Accepted, Operation, Query, Worker};
 
 // Where a line asks for no operation.
@@ -36,10 +36,10 @@ fn refused(number: u64) -> Call
 
 // The call that a line makes, or its refusal: 10 for none, 10 before the first accepted open, 1 for more than 16 cells.
 // A step of a history under way is no call here: runs of steps are served by themselves.
-fn call_of(line: Line, h: History) -> Call
+fn call_of(line: Option<Command>, h: History) -> Call
     ensures { result ≡ call_of line h }
 {
-    let Line::Is(command) = line else {
+    let Some(command) = line else {
         return refused(10);
     };
     let lent = words(h.versions);
@@ -81,10 +81,10 @@ fn refused_turn(number: u64, h: History) -> Turn
 }
 
 // The N, W and V that an open asks for.
-fn asked_history(line: Line, h: History) -> History
+fn asked_history(line: Option<Command>, h: History) -> History
     ensures { result ≡ asked_by line h }
 {
-    let Line::Is(command) = line else {
+    let Some(command) = line else {
         return h;
     };
     match command {
@@ -99,7 +99,7 @@ fn asked_history(line: Line, h: History) -> History
 }
 
 // N, W and V are kept only where the open is accepted.
-fn opened_turn(accepted: Accepted, line: Line, h: History) -> Turn
+fn opened_turn(accepted: Accepted, line: Option<Command>, h: History) -> Turn
     ensures { result ≡ record { reply = Reply.Accepted accepted; history = kept_by accepted line h } }
 {
     match accepted {
@@ -109,10 +109,10 @@ fn opened_turn(accepted: Accepted, line: Line, h: History) -> Turn
 }
 
 // The W that an open asks for.
-fn crew(line: Line) -> u64
+fn crew(line: Option<Command>) -> u64
     ensures { result ≡ crew_of line }
 {
-    let Line::Is(command) = line else {
+    let Some(command) = line else {
         return 0;
     };
     match command {
@@ -148,7 +148,7 @@ fn operation_of(call: Call) -> Operation
 
 // Carries out what a line asks for that is no step of the history under way.
 pub(crate) fn take_turn(
-    line: Line,
+    line: Option<Command>,
     h: History,
     nodes: &mut [u64],
     versions: &mut [u64],

@@ -1,45 +1,61 @@
 -- `grammar::read_number` meets its contract. The digits so far and the bytes that are left come to the same number.
 -- Assumes nothing.
-use mathlib.Core.Path.{sym, ◌∙◌}
-use native.Mathlib.Omega.{arith}
-use borrow.Author.Rules.{rules}
-use Rattle.grammar.specs.Grammar.{number_of}
-use Rattle.grammar.proofs.Laws.{digit_low, digit_high, digit_on, digits_done, digits_over, ten, small}
+use Rattle.std.proofs.Common.{arith, ◌≡◌, ◌∙◌, refl, sym, ap, option_map, ℕ, ◌+◌, ◌-◌, ◌≤◌, Bool, true, false, ltb, List, length, Bor}
+use Rattle.std.specs.Bool.{then_some}
+use borrow.Author.Tests.{ltb-true, ltb-false}
+use Rattle.grammar.proofs.Digits.{digits_over, digits_on, digits_stop, digits_done, ten, small, within, none_read}
+use Rattle.grammar.specs.Grammar.{number_of, digits, ended, most_digits}
+use Rattle.grammar.proofs.read_number.Goals.{in-Some+then-not-is_ascii_digit, in_default}
 use Rattle.grammar.proofs.read_number.Goals as goal
 
-pub loop-i-init : goal.loop-i-init
+pub loop-digit-init : goal.loop-digit-init
 unfolding number_of
-loop-i-init c = search rules
+loop-digit-init c =
+    let none : length c.args.s.now - length c.args.s.now ≡ 0 = omega arith in
+    record { within = omega arith; few = omega arith; held = simp none (omega arith); same = simp none }
 
-pub returns-then-b-lt48 : goal.returns-then-b-lt48
-returns-then-b-lt48 c =
-    c.finished.ensures ∙ sym (digit_low _ _ _ _ c.loop-i-test.true c.wide-b.ensures c.if-b-lt48.true) ∙ c.loop-i.invariant.3
+pub returns-then-s-rest-eq-MOST_DIGITS : goal.returns-then-s-rest-eq-MOST_DIGITS
+returns-then-s-rest-eq-MOST_DIGITS c =
+    let digit = c.in-Some in
+    sym (digits_over (most_digits + 1) _ _ (omega arith))
+    ∙ sym (digits_on _ (most_digits + 1) _ digit.digit.now _ (omega arith) _ _ digit.ensures.cases.0 (sym c.if-not-is_ascii_digit.ensures.value) refl)
+    ∙ c.loop-digit.invariant.same
 
-pub returns-then-b-gt57 : goal.returns-then-b-gt57
-returns-then-b-gt57 c =
-    c.finished-then-b-gt57.ensures
-    ∙ sym (digit_high _ _ _ _ c.loop-i-test.true c.wide-b.ensures c.if-b-lt48.false c.if-b-gt57.true)
-    ∙ c.loop-i.invariant.3
+pub overflow_mul-value : goal.overflow_mul-value
+overflow_mul-value c = omega (arith, small (length c.args.s.now - length c.loop-digit.rest.now) (omega arith))
 
-pub returns-then-i-eq18 : goal.returns-then-i-eq18
-returns-then-i-eq18 c =
-    sym (digits_over _ _ _ (omega arith))
-    ∙ sym (digit_on _ _ _ _ c.loop-i-test.true c.wide-b.ensures c.if-b-lt48.false c.if-b-gt57.false)
-    ∙ c.loop-i.invariant.3
+pub overflow_add-value : goal.overflow_add-value
+overflow_add-value c = omega (arith, small (length c.args.s.now - length c.loop-digit.rest.now) (omega arith))
 
-pub overflow_mul-v : goal.overflow_mul-v
-overflow_mul-v c = omega (arith, small c.loop-i.i (omega arith))
+pub loop-digit-preserved : goal.loop-digit-preserved
+loop-digit-preserved c =
+    let loop = c.loop-digit in
+    let digit = c.in-Some in
+    let whole = length c.args.s.now in
+    let next : (whole - length loop.rest.now) + 1 ≡ whole - length digit.tail.now = omega (arith, digit.ensures.cases.1) in
+    record {
+      within = omega (arith, digit.ensures.cases.1);
+      few = omega arith;
+      held = ten _ _ _ 0 _ next loop.invariant.held (omega (arith, c.if-not-is_ascii_digit.ensures.cases));
+      same = sym (digits_on _ _ _ digit.digit.now _ next _ _ digit.ensures.cases.0 (sym c.if-not-is_ascii_digit.ensures.value) c.from.ensures) ∙ loop.invariant.same;
+    }
 
-pub overflow_add-v : goal.overflow_add-v
-overflow_add-v c = omega (arith, small c.loop-i.i (omega arith))
-
-pub loop-i-preserved : goal.loop-i-preserved
-loop-i-preserved c = (
-  omega arith,
-  omega arith,
-  ten _ _ _ c.loop-i.invariant.2 (omega arith),
-  sym (digit_on _ _ _ _ c.loop-i-test.true c.wide-b.ensures c.if-b-lt48.false c.if-b-gt57.false) ∙ c.loop-i.invariant.3,
-)
+-- a number was read where some digits were
+told : (s : List ℕ) (v : ℕ) (rest : Bor (List ℕ)) → length s - length rest.now ≤ most_digits
+    → option_map (λ number. (number.0, number.1.now)) (then_some {T = ℕ × Bor (List ℕ)} (ltb (length rest.now) (length s)) (v, rest)) ≡ ended (length s - length rest.now) v rest.now
+told s v rest few = by (ltb (length rest.now) (length s)) refl
+  where
+    by : (t : Bool) → ltb (length rest.now) (length s) ≡ t → option_map (λ number. (number.0, number.1.now)) (then_some {T = ℕ × Bor (List ℕ)} t (v, rest)) ≡ ended (length s - length rest.now) v rest.now
+    by true e = sym (within _ v rest.now (omega (arith, ltb-true (length rest.now) (length s) e)) few)
+    by false e = let none : length s - length rest.now ≡ 0 = omega (arith, ltb-false (length rest.now) (length s) e) in rw none (sym (none_read v rest.now))
 
 pub returns : goal.returns
-returns c = c.finished-2.ensures ∙ sym (digits_done _ _ _ c.loop-i-test.false) ∙ c.loop-i.invariant.3
+returns c =
+    let loop = c.loop-digit in
+    let whole = length c.args.s.now in
+    let ends : digits (whole - length loop.rest.now) loop.value loop.rest.now ≡ ended (whole - length loop.rest.now) loop.value loop.rest.now =
+    elim c.match-split_first.branch [
+      | in-Some+then-not-is_ascii_digit w ↦ digits_stop _ _ _ _ _ w.in-Some.ensures.cases.0 (sym w.if-not-is_ascii_digit.ensures.value)
+      | in_default w ↦ digits_done _ _ _ w.in_default.ensures.cases
+    ] in
+    ap (option_map (λ number. (number.0, number.1.now))) c.then_some.ensures ∙ told c.args.s.now loop.value loop.rest loop.invariant.few ∙ sym ends ∙ loop.invariant.same

@@ -1,11 +1,16 @@
 -- The digits so far and the bytes that are left come to the same number.
 -- Assumes nothing.
-use Rattle.std.proofs.Common.{length, drop, ◌-◌, ◌≡◌, ◌≤◌, ◌<◌, ◌^◌}
-use Rattle.grammar.specs.Grammar.{digits, number_of}
+use Rattle.std.proofs.Common.{length, ◌-◌, ◌≡◌, ◌≤◌, ◌<◌, ◌^◌}
+use Rattle.grammar.specs.Grammar.{digits, number_of, most_digits}
 use Rattle.grammar.proofs.read_number.Given as goal
 
-abbrev pub invariant-loop-i : goal.invariant-loop-i
-invariant-loop-i l = (l.i ≤ length l.s) × (l.i ≤ 18) × (l.v < 10 ^ l.i) × (digits l.i l.v (drop l.i l.s) ≡ number_of l.s)
+abbrev pub invariant-loop-digit : goal.invariant-loop-digit
+invariant-loop-digit l = record {
+  within : length l.rest ≤ length l.s;
+  few : length l.s - length l.rest ≤ most_digits;
+  held : l.value < 10 ^ (length l.s - length l.rest);
+  same : digits (length l.s - length l.rest) l.value l.rest ≡ number_of l.s;
+}
 
-abbrev pub decreases-loop-i : goal.decreases-loop-i
-decreases-loop-i l = length l.s - l.i
+abbrev pub decreases-loop-digit : goal.decreases-loop-digit
+decreases-loop-digit l = length l.rest
