@@ -5,16 +5,18 @@ ghost use Rattle.trie.specs.Size.{allowed, height_of};
 
 use trie::MOST_CELLS;
 
+#[tactic(auto, unfolding(trie::specs::Size::allowed))]
 pub fn is_allowed(n: u64) -> bool
     ensures { result ≡ allowed n }
 {
-    (u64::count_ones(n) == 1) & ((2 <= n) & (n <= MOST_CELLS))
+    (n.count_ones() == 1) & ((2 <= n) & (n <= MOST_CELLS))
 }
 
+#[tactic(auto, unfolding(trie::specs::Size::height_of))]
 pub fn height(n: u64) -> u64
     ensures { result ≡ height_of n }
 {
-    u64::trailing_zeros(n) as u64
+    u64::from(n.trailing_zeros())
 }
 
 // The ancestor of x that many levels up, and 0 above the root.
