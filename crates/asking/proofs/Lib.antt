@@ -1,4 +1,3 @@
--- Laws by which the walks of a query's functions end:
--- first the look at one place, and then the whole ways down that are made of such looks.
-pub mod Looks
-pub mod Walks
+-- The law by which a walk of Select keeps its node numbers small.
+-- It stands apart since it speaks of numbers alone.
+pub mod Depths

@@ -35,6 +35,7 @@ fn first(q: Query, v: VersionNumber, r: Version) -> Result<Plan, Damage>
     }
 }
 
+#[tactic(auto, unfolding(trie::specs::Asking::ask_of))]
 pub fn ask(b: Bounds, q: Query, nodes: &[u64], versions: &[u64]) -> Result<Plan, Damage>
     ensures { result ≡ ask_of b q nodes.now versions.now }
 {
