@@ -1,6 +1,6 @@
 -- The steps of a query: each goes through without damage, and the last one answers as the book did at its reading of the root.
 -- Assumes nothing.
-use Rattle.std.specs.Prelude.{◌≡◌, refl, Bool, false, List, ℕ, zero, suc, ◌+◌, ◌*◌, ◌-◌, ◌/◌, ◌%◌, ◌^◌, ◌≤◌, ◌<◌, eqb, leb, ltb, get_or}
+use Rattle.std.specs.Prelude.{◌≡◌, refl, Bool, false, List, ℕ, zero, suc, ◌+◌, ◌*◌, ◌-◌, ◌/◌, ◌%◌, ◌^◌, ◌≤◌, ◌<◌, eqb, leb, ltb, get_or, Result}
 use Rattle.std.proofs.Common.{sym, ap₂, ◌∙◌, subst, pow-suc, add-one, shr-shr}
 use Rattle.std.proofs.Math.Path.{ap}
 use Rattle.std.proofs.Math.Bool.{true}
@@ -19,17 +19,17 @@ use Rattle.trie.specs.declared.Version.{Version}
 use Rattle.trie.specs.declared.Query.{Query}
 use Rattle.trie.specs.declared.Standing.{Standing}
 use Rattle.trie.specs.declared.Fork.{Fork}
-use Rattle.trie.specs.declared.Seen.{Seen}
 use Rattle.trie.specs.declared.Phase.{Phase}
 use Rattle.trie.specs.declared.Answer.{Answer}
 use Rattle.trie.specs.declared.Plan.{Plan}
+use Rattle.trie.specs.declared.Damage.{Damage}
 use Rattle.trie.specs.Choice.{pick}
 use Rattle.trie.proofs.SizeLaws.{and_both}
 use Rattle.trie.specs.Tables.{current_of, version_at}
 use Rattle.trie.specs.Sound.{cell_energy}
 use Rattle.trie.specs.Record.{query_fits}
 use Rattle.trie.specs.Values.{Value, value_of}
-use Rattle.trie.specs.Leaf.{sure, goes_on, marked}
+use Rattle.trie.specs.Leaf.{sure, goes_on, marked, keep}
 use Rattle.trie.specs.Asking.{standing, answers, first_of, ask_of, last_at, fork_of, seen, look_of, turns_right, towards, toward, level_of, find_of, passed_of, reached_of, within, rank_next, rank_of, select_next, at_depth, select_of}
 use Rattle.trie.specs.Stepping.{plan_phase}
 use Rattle.history.specs.Book.{Book, sum, ones, weights, select, level_in, mark, level_if}
@@ -93,7 +93,7 @@ module _ {h u most : ℕ} {b : Bounds} (g : Gauge h u most b) (versions : List �
   fork st = fork_of b st versions (version_at versions st.version)
 
   module _ {e s : ℕ} {st : Standing} (p : Stands (version_of versions) u B h e s st) where
-    look_is : look_of b st versions ≡ Seen.Sound (fork st)
+    look_is : look_of b st versions ≡ Result.Ok (fork st)
     unfolding look_of
     look_is =
         ap (λ (t : Bool). seen t (fork st))
@@ -135,7 +135,7 @@ module _ {h u most : ℕ} {b : Bounds} (g : Gauge h u most b) (versions : List �
 
   find_seen_lem : (k : ℕ) (st : Standing) → k < 2 ^ h → (e : ℕ) (right last : Bool) → Stands (version_of versions) u B h e (k / 2 ^ suc e * 2 ^ suc e) st
       → eqb (k / 2 ^ e % 2) 1 ≡ right → eqb e 0 ≡ last
-      → Walks (version_of versions) u B h e (Query.Find k) (pick last (answers (level_of (toward right (fork st)))) (Plan.Keep (goes_on (Phase.Find k (standing (st.depth + 1) (towards right (fork st)))))))
+      → Walks (version_of versions) u B h e (Query.Find k) (pick last (answers (level_of (toward right (fork st)))) (keep (goes_on (Phase.Find k (standing (st.depth + 1) (towards right (fork st)))))))
   find_seen_lem k st l zero right true p t z =
       let at : pick right (k / 2 ^ 1 * 2 ^ 1 + 2 ^ 0) (k / 2 ^ 1 * 2 ^ 1) ≡ k = sym (turn_is k 0 right t) ∙ omega arith in
       ends (level_is (toward right (fork st)) ∙ ap (λ (r : Version). level_in (mark r)) (child_version p right) ∙ ap level_in (shows_cell (child_shows p right) ∙ ap B at))
@@ -269,9 +269,9 @@ module _ {h u most : ℕ} {b : Bounds} (g : Gauge h u most b) (versions : List �
   root_sum {word} {f} a w s = let all : 0 + 2 ^ h ≡ 2 ^ h = omega arith in omega (arith, shows_sum energy_of a w s, ap (λ (m : ℕ). sum f m B) all)
 
   -- a query's first step: it answers at once, or goes on with h steps more
-  pub data First : Query → Plan → Type 0 where
-    at_once : {q : Query} {p : Plan} → Walks (version_of versions) u B h 0 q p → First q p
-    on_way : {q : Query} {p : Plan} → Walks (version_of versions) u B h h q p → First q p
+  pub data First : Query → Result Plan Damage → Type 0 where
+    at_once : {q : Query} {p : Result Plan Damage} → Walks (version_of versions) u B h 0 q p → First q p
+    on_way : {q : Query} {p : Result Plan Damage} → Walks (version_of versions) u B h h q p → First q p
 
   module _ (e : ℕ) (tall : h ≡ suc e) (v : VersionNumber) (w : Whole energy_of (version_of versions) u h v.0) (s : Shows (version_of versions) B h 0 v.0) where
     root_stands : (c : ℕ) → c ≡ 0 → Stands (version_of versions) u B h e c (standing 0 v)
@@ -282,8 +282,8 @@ module _ {h u most : ℕ} {b : Bounds} (g : Gauge h u most b) (versions : List �
           shows = shows_at (sym z) refl (subst (λ (d : ℕ). Shows (version_of versions) B d 0 v.0) tall s);
         }
 
-    on : {q : Query} {p : Phase} → Under (version_of versions) u B h e q p → First q (Plan.Keep (goes_on p))
-    on {q} {p} n = on_way (subst (λ (d : ℕ). Walks (version_of versions) u B h d q (Plan.Keep (goes_on p))) (sym tall) (goes n))
+    on : {q : Query} {p : Phase} → Under (version_of versions) u B h e q p → First q (keep (goes_on p))
+    on {q} {p} n = on_way (subst (λ (d : ℕ). Walks (version_of versions) u B h d q (keep (goes_on p))) (sym tall) (goes n))
 
     first_at : (k : ℕ) → k < 2 ^ h → k / 2 ^ suc e * 2 ^ suc e ≡ 0
     first_at k l = subst (λ (d : ℕ). k / 2 ^ d * 2 ^ d ≡ 0) tall (first_cell k l)
@@ -302,7 +302,7 @@ module _ {h u most : ℕ} {b : Bounds} (g : Gauge h u most b) (versions : List �
     first_step (Query.Select j) f = by (ltb (version_at versions v).count j) refl
       where
         by : (t : Bool) → ltb (version_at versions v).count j ≡ t
-            → First (Query.Select j) (pick t (answers Answer.None) (Plan.Keep (goes_on (Phase.Select j (standing 0 v) (record { 0 = 1 }) 0))))
+            → First (Query.Select j) (pick t (answers Answer.None) (keep (goes_on (Phase.Select j (standing 0 v) (record { 0 = 1 }) 0))))
         by true t = at_once (ends (sym (select_none B j (2 ^ h) (omega (arith, ltb-true (version_at versions v).count j t, root_sum (adds_count energy_of) w s)))))
         by false t =
             let z : 0 * 2 ^ suc e ≡ 0 = omega arith in
