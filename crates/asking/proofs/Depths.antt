@@ -1,8 +1,7 @@
 -- A node at a depth above the leaves is far from the end of the numbers: the tree is at most twelve levels high.
 -- Assumes nothing.
 use Rattle.std.specs.Prelude.{◌≡◌, true, ℕ, suc, ◌*◌, ◌/◌, ◌^◌, ◌≤◌, ◌<◌}
-use mathlib.Core.Path.{subst}
-use native.Mathlib.Nat.{pow-suc, div-lt_iff_lt-mul, lt_of_lt_of_le}
+use native.Mathlib.Nat.{pow-suc, div-lt_iff_lt-mul}
 use native.Mathlib.Omega.{arith}
 use borrow.Author.Tests.{eqb-true}
 use lib.Pow.{pow_mono, pow_pos}

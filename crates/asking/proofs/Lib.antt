@@ -1,3 +1,3 @@
--- The law by which a walk of Select keeps its node numbers small.
--- It stands apart since it speaks of numbers alone.
+-- What Select needs of its depth.
+-- It speaks of numbers alone, not of tables or versions.
 pub mod Depths

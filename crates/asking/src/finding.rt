@@ -4,8 +4,8 @@ ghost use Rattle.std.specs.Prelude.{◌≡◌};
 ghost use Rattle.trie.specs.Asking.{level_of, find_seen, find_of};
 
 use crate::looking::{look, towards, turns_right};
-use crate::plans::go_on;
-use trie::{Answer, Bounds, Damage, Fork, Next, Phase, Plan, Standing, Version};
+use crate::plans::{answer, go_on};
+use trie::{Answer, Bounds, Damage, Fork, Phase, Plan, Standing, Version};
 
 fn level_of(r: Version) -> Answer
     ensures { result ≡ level_of r }
@@ -22,7 +22,7 @@ fn find_seen(k: u64, right: bool, f: Fork) -> Result<Plan, Damage>
 {
     let next = towards(right, f);
     if f.last {
-        Ok(Plan::Keep(Next::Done(level_of(next.version))))
+        answer(level_of(next.version))
     } else {
         go_on(Phase::Find(k, next.standing))
     }

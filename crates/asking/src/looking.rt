@@ -11,10 +11,7 @@ fn child(depth: u64, v: VersionNumber, versions: &[u64]) -> Child
     ensures { result ≡ child_of depth versions.now v }
 {
     Child {
-        standing: Standing {
-            depth: depth,
-            version: v,
-        },
+        standing: Standing { depth, version: v },
         version: load(versions, v),
     }
 }
@@ -36,11 +33,7 @@ pub(crate) fn look(b: Bounds, s: Standing, versions: &[u64]) -> Result<Fork, Dam
     if is_sound(b, false, s.version, at)
         & (is_sound(b, last, at.left, left.version) & is_sound(b, last, at.right, right.version))
     {
-        Ok(Fork {
-            left: left,
-            right: right,
-            last: last,
-        })
+        Ok(Fork { left, right, last })
     } else {
         Err(Damage)
     }

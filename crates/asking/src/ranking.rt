@@ -6,10 +6,10 @@ ghost use Rattle.trie.specs.Refusing.{damaged};
 ghost use Rattle.trie.specs.Asking.{passed_of, reached_of, rank_next, rank_seen, rank_of};
 
 use crate::looking::{look, towards, turns_right};
-use crate::plans::go_on;
+use crate::plans::{answer, go_on};
 use decibel::Energy;
 use sound::add_within;
-use trie::{Answer, Bounds, Damage, Fork, Next, Phase, Plan, Standing};
+use trie::{Answer, Bounds, Damage, Fork, Phase, Plan, Standing};
 
 // What is passed so far, with the left side where the way turns right, and with the leaf at the last step.
 fn reach(
@@ -30,7 +30,7 @@ fn rank_next(k: u64, next: Standing, last: bool, count: u64, energy: u64) -> Res
     ensures { result ≡ rank_next k next last count energy }
 {
     if last {
-        Ok(Plan::Keep(Next::Done(Answer::Sums(count, Energy(energy)))))
+        answer(Answer::Sums(count, Energy(energy)))
     } else {
         go_on(Phase::Rank(k, next, count, Energy(energy)))
     }

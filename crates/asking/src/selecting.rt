@@ -3,19 +3,19 @@
 ghost use Rattle.std.specs.Prelude.{◌≡◌, ◌+◌, ◌-◌, ◌<◌, ◌≤◌, leb};
 ghost use Rattle.trie.specs.Size.{tallest};
 ghost use Rattle.trie.specs.Leaf.{sure};
-ghost use Rattle.trie.specs.Asking.{answers, select_next, select_right, select_seen, select_of};
+ghost use Rattle.trie.specs.Asking.{select_next, select_right, select_seen, select_of};
 
 use crate::looking::look;
-use crate::plans::go_on;
+use crate::plans::{answer, go_on};
 use sound::add_within;
 use tables::ancestor;
-use trie::{Answer, Bounds, Damage, Fork, Next, NodeNumber, Phase, Plan, Standing, TALLEST};
+use trie::{Answer, Bounds, Damage, Fork, NodeNumber, Phase, Plan, Standing, TALLEST};
 
-// The answer at leaf x: its cell.
-fn cell_at(b: Bounds, x: u64) -> Result<Plan, Damage>
-    ensures { result ≡ answers (Answer.Cell (x - b.cells)) }
+// The answer at leaf x.
+fn cell_at(b: Bounds, x: u64) -> Answer
+    ensures { result ≡ Answer.Cell (x - b.cells) }
 {
-    Ok(Plan::Keep(Next::Done(Answer::Cell(x.saturating_sub(b.cells)))))
+    Answer::Cell(x.saturating_sub(b.cells))
 }
 
 fn select_next(
@@ -29,7 +29,7 @@ fn select_next(
     ensures { result ≡ select_next b j next x passed last }
 {
     if last {
-        cell_at(b, x)
+        answer(cell_at(b, x))
     } else {
         go_on(Phase::Select(j, next, NodeNumber(x), passed))
     }
@@ -43,7 +43,7 @@ fn select_right(b: Bounds, j: u64, x: u64, passed: u64, f: Fork) -> Result<Plan,
     let left_behind = f.left.version;
     let more = add_within(passed, left_behind.count, b.cells)?;
     if f.last {
-        return cell_at(b, x);
+        return answer(cell_at(b, x));
     }
     go_on(Phase::Select(j, f.right.standing, NodeNumber(x), more))
 }
