@@ -4,6 +4,7 @@
 
 ghost use Rattle.std.specs.Prelude.{◌≡◌, ◌+◌, ◌≤◌, leb};
 ghost use Rattle.trie.specs.Choice.{pick};
+ghost use Rattle.trie.specs.Refusing.{damaged};
 ghost use Rattle.trie.specs.Size.{most_cells};
 ghost use Rattle.trie.specs.Sound.{bounds_of, used_sound, numbered, leaf_sound, inner_sound, sound_at, sound_in, sum_in};
 
@@ -97,6 +98,22 @@ pub fn is_sound_in(b: Bounds, leaf: bool, versions: &[u64], v: VersionNumber) ->
         is_placed(b, leaf, load(versions, v))
     } else {
         false
+    }
+}
+
+// The number of a version that may stand there, as it stands in the table; any other is damage.
+pub fn judged(
+    b: Bounds,
+    leaf: bool,
+    versions: &[u64],
+    v: VersionNumber,
+) -> Result<VersionNumber, Damage>
+    ensures { result ≡ pick (sound_in b leaf versions.now v) (Ok v) damaged }
+{
+    if is_sound_in(b, leaf, versions, v) {
+        Ok(v)
+    } else {
+        Err(Damage)
     }
 }
 
