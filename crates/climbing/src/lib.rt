@@ -15,7 +15,9 @@ use marking::{climb_from, plan_swap};
 use records::climb_fits;
 use sound::{add_within, judged};
 use tables::{load, word};
-use trie::{Answer, Bounds, Climb, Damage, Held, Next, Phase, Plan, Version, VersionNumber, Worker};
+use trie::{
+    Answer, Bounds, Climb, Damage, Held, Next, Phase, Plan, Version, VersionNumber, Worker,
+};
 
 // Done with a node: at the root the update answers, else it goes on at the parent.
 fn rise(c: Climb, made: u64) -> Next
@@ -70,7 +72,12 @@ fn place_sum(b: Bounds, c: Climb, now: u64, v: VersionNumber, sum: Version) -> R
 
 // The sums are judged before they are formed.
 fn join(b: Bounds, l: VersionNumber, r: VersionNumber, versions: &[u64]) -> Result<Version, Damage>
-    ensures { result ≡ pick (leb ((version_at versions.now l).count + (version_at versions.now r).count) b.cells && leb ((version_at versions.now l).energy.0 + (version_at versions.now r).energy.0) b.energy) (Ok (sum_of l r (version_at versions.now l) (version_at versions.now r))) damaged }
+    ensures { result
+        ≡ pick
+        (leb ((version_at versions.now l).count + (version_at versions.now r).count) b.cells
+        && leb ((version_at versions.now l).energy.0 + (version_at versions.now r).energy.0) b.energy)
+        (Ok (sum_of l r (version_at versions.now l) (version_at versions.now r)))
+        damaged }
 {
     let left = load(versions, l);
     let right = load(versions, r);
@@ -79,7 +86,7 @@ fn join(b: Bounds, l: VersionNumber, r: VersionNumber, versions: &[u64]) -> Resu
     Ok(Version {
         left: l,
         right: r,
-        count: count,
+        count,
         energy: Energy(energy),
         level: Level(0),
     })
@@ -87,18 +94,23 @@ fn join(b: Bounds, l: VersionNumber, r: VersionNumber, versions: &[u64]) -> Resu
 
 // What a refresh has read is judged again at each further step, as any word may stand in a record.
 #[tactic(auto, unfolding(trie::specs::Refreshing::refresh_of, trie::specs::Refreshing::join_of))]
-pub fn refresh(b: Bounds, c: Climb, held: Held, nodes: &[u64], versions: &[u64]) -> Result<Plan, Damage>
+pub fn refresh(
+    b: Bounds,
+    c: Climb,
+    held: Held,
+    nodes: &[u64],
+    versions: &[u64],
+) -> Result<Plan, Damage>
     ensures { result ≡ sure (leb b.cells most_cells) (refresh_of b c held nodes.now versions.now) }
 {
     if !climb_fits(b, c) {
         return Err(Damage);
     }
-    let now = VersionNumber(word(nodes, c.node.0));
     let left = 2 * c.node.0;
     let leaves = b.cells <= left;
     match held {
         Held::Nothing => {
-            let v = judged(b, false, versions, now)?;
+            let v = judged(b, false, versions, VersionNumber(word(nodes, c.node.0)))?;
             hold(c, Held::Node(v))
         }
         Held::Node(v) => {
@@ -117,7 +129,7 @@ pub fn refresh(b: Bounds, c: Climb, held: Held, nodes: &[u64], versions: &[u64])
             judged(b, leaves, versions, l)?;
             judged(b, leaves, versions, r)?;
             let sum = join(b, l, r, versions)?;
-            place_sum(b, c, now.0, v, sum)
+            place_sum(b, c, word(nodes, c.node.0), v, sum)
         }
     }
 }

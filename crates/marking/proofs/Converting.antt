@@ -5,7 +5,7 @@ use Rattle.std.proofs.Common.{ap, ◌∙◌, subst, leb-true}
 use Rattle.decibel.specs.declared.Level.{Level}
 use Rattle.decibel.specs.declared.Energy.{Energy}
 use Rattle.decibel.specs.declared.TooLoud.{TooLoud}
-use Rattle.decibel.specs.Told.{Told, gives}
+use Rattle.decibel.specs.Told.{gives}
 use Rattle.decibel.specs.Energy.{energy_of}
 use Rattle.decibel.specs.Conversion.{loudest, convert_of}
 use Rattle.decibel.specs.Answer.{told_of}

@@ -34,9 +34,9 @@ fn leaf_version(count: u64, energy: Energy, level: Level) -> Version
     Version {
         left: VersionNumber(0),
         right: VersionNumber(0),
-        count: count,
-        energy: energy,
-        level: level,
+        count,
+        energy,
+        level,
     }
 }
 
@@ -57,10 +57,10 @@ pub fn climb_from(x: NodeNumber, u: Update, yes: bool, made: u64) -> Next
 {
     let climb = Climb {
         update: u,
-        yes: yes,
+        yes,
         node: NodeNumber(x.0 / 2),
         second: false,
-        made: made,
+        made,
     };
     Next::On(Worker {
         phase: Phase::Refresh(climb, Held::Nothing),
@@ -86,11 +86,10 @@ fn leaf(b: Bounds, u: Update) -> Result<NodeNumber, Damage>
     if MOST_CELLS < n {
         return Err(Damage);
     }
-    if update_fits(n, u) {
-        Ok(NodeNumber(n + cell(u)))
-    } else {
-        Err(Damage)
+    if !update_fits(n, u) {
+        return Err(Damage);
     }
+    Ok(NodeNumber(n + cell(u)))
 }
 
 #[tactic(auto, unfolding(trie::specs::Leaf::read_of))]

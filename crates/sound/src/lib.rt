@@ -110,11 +110,7 @@ pub fn judged(
 ) -> Result<VersionNumber, Damage>
     ensures { result ≡ pick (sound_in b leaf versions.now v) (Ok v) damaged }
 {
-    if is_sound_in(b, leaf, versions, v) {
-        Ok(v)
-    } else {
-        Err(Damage)
-    }
+    is_sound_in(b, leaf, versions, v).then_some(v).ok_or(Damage)
 }
 
 // Whether a sum stays within a bound, without forming it where it would not.
