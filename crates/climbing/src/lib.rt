@@ -93,7 +93,7 @@ fn join(b: Bounds, l: VersionNumber, r: VersionNumber, versions: &[u64]) -> Resu
 }
 
 // What a refresh has read is judged again at each further step, as any word may stand in a record.
-#[tactic(auto, unfolding(trie::specs::Refreshing::refresh_of, trie::specs::Refreshing::join_of))]
+#[tactic(auto, using(crate::proofs::Nodes::climb_node), unfolding(trie::specs::Refreshing::refresh_of, trie::specs::Refreshing::join_of))]
 pub fn refresh(
     b: Bounds,
     c: Climb,
