@@ -5,11 +5,11 @@
 ghost use Rattle.std.specs.Prelude.{◌≡◌, ◌+◌, ◌≤◌, leb};
 ghost use Rattle.trie.specs.Choice.{pick};
 ghost use Rattle.trie.specs.Size.{most_cells};
-ghost use Rattle.trie.specs.Sound.{bounds_of, used_sound, numbered, leaf_sound, inner_sound, sound_at, sound_in};
+ghost use Rattle.trie.specs.Sound.{bounds_of, used_sound, numbered, leaf_sound, inner_sound, sound_at, sound_in, sum_in};
 
 use decibel::{CELL_ENERGY, LOUDEST};
 use tables::{height, load, room, word};
-use trie::{Bounds, MOST_CELLS, Version, VersionNumber};
+use trie::{Bounds, Damage, MOST_CELLS, Version, VersionNumber};
 
 // As many cells as a tree may have, else none.
 fn within_a_tree(n: u64) -> u64
@@ -115,4 +115,15 @@ pub fn sum_within(a: u64, b: u64, most: u64) -> u64
     ensures { result ≡ pick (leb (a + b) most) (a + b) 0 }
 {
     if is_within(a, b, most) { a + b } else { 0 }
+}
+
+// A sum that stays within a bound; one that does not is damage.
+pub fn add_within(a: u64, b: u64, most: u64) -> Result<u64, Damage>
+    ensures { result ≡ sum_in a b most }
+{
+    if is_within(a, b, most) {
+        Ok(a + b)
+    } else {
+        Err(Damage)
+    }
 }

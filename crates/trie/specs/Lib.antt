@@ -3,9 +3,9 @@
 pub mod Choice
 pub mod Size
 pub mod Tables
+pub mod Refusing
 pub mod Sound
 pub mod Record
-pub mod Refusing
 pub mod Values
 pub mod Opening
 pub mod Starting

@@ -18,4 +18,4 @@ number_of Refusal.Command = 10
 number_of Refusal.AnswerRow = 20
 
 abbrev pub damaged : {A : Type 0} → Result A Damage
-damaged = Result.Err (record { })
+damaged = Result.Err (record {})

@@ -1,11 +1,13 @@
 -- The numbers that a call is judged by, and when a version is sound at a leaf or at an inner place.
 -- Document 01, "Refusal numbers". Assumes nothing.
-use Rattle.std.specs.Prelude.{Bool, ◌&&◌, ◌||◌, List, ℕ, ◌+◌, ◌*◌, ◌-◌, eqb, leb}
+use Rattle.std.specs.Prelude.{Bool, ◌&&◌, ◌||◌, List, ℕ, ◌+◌, ◌*◌, ◌-◌, eqb, leb, Result}
 use Rattle.trie.specs.declared.VersionNumber.{VersionNumber}
 use Rattle.trie.specs.declared.Version.{Version}
 use Rattle.trie.specs.declared.Bounds.{Bounds}
+use Rattle.trie.specs.declared.Damage.{Damage}
 use Rattle.decibel.specs.Conversion.{loudest}
 use Rattle.trie.specs.Choice.{pick}
+use Rattle.trie.specs.Refusing.{damaged}
 use Rattle.trie.specs.Size.{height_of}
 use Rattle.trie.specs.Tables.{room_of, used_of, version_at}
 
@@ -27,6 +29,10 @@ bounds_of n nodes versions =
 -- used is from 2N - 1 to V
 unfoldable pub used_sound : Bounds → Bool
 used_sound b = leb (2 * b.cells - 1) b.used && leb b.used b.room
+
+-- a sum that stays within a bound; one past it is damage
+abbrev pub sum_in : ℕ → ℕ → ℕ → Result ℕ Damage
+sum_in a b most = pick (leb (a + b) most) (Result.Ok (a + b)) damaged
 
 abbrev pub numbered : Bounds → VersionNumber → Bool
 numbered b v = leb 1 v.0 && leb v.0 b.used
