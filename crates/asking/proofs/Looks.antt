@@ -1,5 +1,6 @@
 -- What a query's look below shows of its place, and how running sums go by their tests.
 -- Assumes nothing.
+use Rattle.std.specs.Prelude.{Result}
 use mathlib.Core.Path.{◌≡◌, refl, sym, ap, ◌∙◌, subst, PathP}
 use mathlib.Core.Bool.{Bool, true, false, ◌&&◌}
 use mathlib.Core.List.{List}
@@ -12,22 +13,22 @@ use lib.Pow.{pow_mono, pow_pos}
 use Rattle.trie.specs.declared.Bounds.{Bounds}
 use Rattle.trie.specs.declared.Standing.{Standing}
 use Rattle.trie.specs.declared.Fork.{Fork}
-use Rattle.trie.specs.declared.Seen.{Seen}
-use Rattle.trie.specs.declared.Reached.{Reached}
+use Rattle.trie.specs.declared.Damage.{Damage}
 use Rattle.trie.specs.declared.Version.{Version}
 use Rattle.trie.specs.Choice.{pick}
+use Rattle.trie.specs.Refusing.{damaged}
 use Rattle.trie.specs.Size.{tallest}
 use Rattle.trie.specs.Tables.{version_at}
 use Rattle.trie.specs.Sound.{sound_at, sound_in}
 use Rattle.trie.specs.Asking.{look_of, last_at, seen, passed_of, reached_of, at_depth}
 use Rattle.trie.proofs.SizeLaws.{and_first}
 
-seen_holds : (t : Bool) (f g : Fork) → seen t f ≡ Seen.Sound g → t ≡ true
+seen_holds : (t : Bool) (f g : Fork) → seen t f ≡ Result.Ok g → t ≡ true
 seen_holds true f g e = refl
 seen_holds false f g e = absurd (let z : ◌≡◌ {A = ℕ} 0 1 = cc in omega arith)
 
 -- a query that sees its children stands above the leaves
-pub look_depth : (b : Bounds) (s : Standing) (versions : List ℕ) (r : Seen) (f : Fork) → r ≡ look_of b s versions → r ≡ Seen.Sound f → s.depth < b.height
+pub look_depth : (b : Bounds) (s : Standing) (versions : List ℕ) (r : Result Fork Damage) (f : Fork) → r ≡ look_of b s versions → r ≡ Result.Ok f → s.depth < b.height
 unfolding look_of
 look_depth b s versions r f e q =
     ltb-true s.depth b.height (and_first (ltb s.depth b.height) _ (seen_holds _ _ f (sym e ∙ q)))
@@ -49,12 +50,12 @@ module _ (b : Bounds) (s : Standing) (versions : List ℕ) (at left right : Vers
       er' : PathP (λ i. Version) right (version_at versions (version_at versions s.version).right)
       er' = er ∙ ap (λ (x : Version). version_at versions x.right) ea
 
-  pub look_unsound : (t1 && (t2 && t3)) ≡ false → Seen.Unsound ≡ look_of b s versions
+  pub look_unsound : (t1 && (t2 && t3)) ≡ false → damaged ≡ look_of b s versions
   unfolding look_of
   look_unsound q = rw (lt-ltb s.depth b.height high, sym three ∙ q)
 
   pub look_sound : (t1 && (t2 && t3)) ≡ true
-      → Seen.Sound (record { left = at.left; at_left = left; right = at.right; at_right = right; last = last_at b s.depth }) ≡ look_of b s versions
+      → Result.Ok (record { left = at.left; at_left = left; right = at.right; at_right = right; last = last_at b s.depth }) ≡ look_of b s versions
   unfolding look_of
   look_sound q = rw (lt-ltb s.depth b.height high, sym three ∙ q) (rw (el, er, ea))
 
@@ -90,7 +91,7 @@ module _ (right last : Bool) (running left leaf most beside below : ℕ) (e : be
   sum_is : total ≡ running + beside + below
   sum_is = reached_sum right last running left leaf ∙ omega (arith, e, q)
 
-  pub reach_past : (t : Bool) → t ≡ leb (running + beside) most → t ≡ false → Reached.Past ≡ pick (leb total most) (Reached.Of total) Reached.Past
+  pub reach_past : (t : Bool) → t ≡ leb (running + beside) most → t ≡ false → damaged ≡ pick (leb total most) (Result.Ok total) damaged
   reach_past t a f =
       let l = leb-false (running + beside) most (sym a ∙ f) in
       rw (lt-leb total most (omega (arith, sum_is)))
@@ -99,13 +100,13 @@ module _ (right last : Bool) (running left leaf most beside below : ℕ) (e : be
     ep : passed ≡ running + beside
     ep = sum_formed running beside most passed s es held sum
 
-    pub reach_past_leaf : t ≡ false → Reached.Past ≡ pick (leb total most) (Reached.Of total) Reached.Past
+    pub reach_past_leaf : t ≡ false → damaged ≡ pick (leb total most) (Result.Ok total) damaged
     reach_past_leaf f =
         let l = leb-false (passed + below) most (sym a ∙ f) in
         rw (lt-leb total most (omega (arith, sum_is, ep)))
 
-    pub reach_of : (all : ℕ) → all ≡ pick (leb (passed + below) most) (passed + below) 0 → t ≡ true → Reached.Of all ≡ pick (leb total most) (Reached.Of total) Reached.Past
+    pub reach_of : (all : ℕ) → all ≡ pick (leb (passed + below) most) (passed + below) 0 → t ≡ true → Result.Ok all ≡ pick (leb total most) (Result.Ok total) damaged
     reach_of all ea f =
         let l = leb-true (passed + below) most (sym a ∙ f) in
         let same : all ≡ total = omega (arith, sum_is, ep, sum_formed passed below most all t a f ea) in
-        rw (le-leb total most (omega (arith, sum_is, ep))) (ap Reached.Of same)
+        rw (le-leb total most (omega (arith, sum_is, ep))) (ap Result.Ok same)

@@ -1,5 +1,6 @@
 -- How Rank and Select go by their tests: each law over plain numbers, as a walk of the code meets them.
 -- Assumes nothing.
+use Rattle.std.specs.Prelude.{Result}
 use mathlib.Core.Path.{◌≡◌, refl, sym, ap, ◌∙◌}
 use mathlib.Core.Bool.{Bool, true, false, not, ◌&&◌}
 use mathlib.Core.List.{List}
@@ -14,37 +15,37 @@ use Rattle.trie.specs.declared.NodeNumber.{NodeNumber}
 use Rattle.trie.specs.declared.VersionNumber.{VersionNumber}
 use Rattle.trie.specs.declared.Version.{Version}
 use Rattle.trie.specs.declared.Fork.{Fork}
-use Rattle.trie.specs.declared.Seen.{Seen}
-use Rattle.trie.specs.declared.Reached.{Reached}
+use Rattle.trie.specs.declared.Damage.{Damage}
 use Rattle.trie.specs.declared.Plan.{Plan}
 use Rattle.trie.specs.Choice.{pick}
+use Rattle.trie.specs.Refusing.{damaged}
 use Rattle.trie.specs.Size.{tallest}
 use Rattle.trie.specs.Leaf.{sure}
 use Rattle.trie.specs.Asking.{look_of, toward, towards, turns_right, passed_of, reached_of, rank_next, rank_seen, rank_of, select_seen, select_of}
 use Rattle.trie.proofs.SizeLaws.{and_first, and_second}
 use Rattle.asking.proofs.Looks.{look_depth, select_small}
 
-of_case : (t : Bool) (x n : ℕ) → pick t (Reached.Of x) Reached.Past ≡ Reached.Of n → t ≡ true
+of_case : (t : Bool) (x n : ℕ) → pick t (Result.Ok x) damaged ≡ Result.Ok n → t ≡ true
 of_case true x n e = refl
 of_case false x n e = absurd (let z : ◌≡◌ {A = ℕ} 0 1 = cc in omega arith)
 
-of_value : (t : Bool) (x n : ℕ) → pick t (Reached.Of x) Reached.Past ≡ Reached.Of n → x ≡ n
+of_value : (t : Bool) (x n : ℕ) → pick t (Result.Ok x) damaged ≡ Result.Ok n → x ≡ n
 of_value true x n e = cc
 of_value false x n e = absurd (let z : ◌≡◌ {A = ℕ} 0 1 = cc in omega arith)
 
-past_case : (t : Bool) (x : ℕ) → pick t (Reached.Of x) Reached.Past ≡ Reached.Past → t ≡ false
+past_case : (t : Bool) (x : ℕ) → pick t (Result.Ok x) damaged ≡ damaged → t ≡ false
 past_case true x e = absurd (let z : ◌≡◌ {A = ℕ} 0 1 = cc in omega arith)
 past_case false x e = refl
 
-module _ (b : Bounds) (k d : ℕ) (right : Bool) (count energy : ℕ) (f : Fork) (at : Version) (ea : at ≡ toward right f) (counted weighed : Reached) where
+module _ (b : Bounds) (k d : ℕ) (right : Bool) (count energy : ℕ) (f : Fork) (at : Version) (ea : at ≡ toward right f) (counted weighed : Result ℕ Damage) where
   abbrev all : Version → ℕ
   all r = reached_of f.last r.count (passed_of right f.at_left.count count)
 
   abbrev sum : Version → ℕ
   sum r = reached_of f.last r.energy.0 (passed_of right f.at_left.energy.0 energy)
 
-  abbrev judged : (Version → ℕ) → ℕ → Version → Reached
-  judged total most r = pick (leb (total r) most) (Reached.Of (total r)) Reached.Past
+  abbrev judged : (Version → ℕ) → ℕ → Version → Result ℕ Damage
+  judged total most r = pick (leb (total r) most) (Result.Ok (total r)) damaged
 
   module _ (ec : counted ≡ judged all b.cells at) (ew : weighed ≡ judged sum b.energy at) where
     counts : counted ≡ judged all b.cells (toward right f)
@@ -53,18 +54,18 @@ module _ (b : Bounds) (k d : ℕ) (right : Bool) (count energy : ℕ) (f : Fork)
     weighs : weighed ≡ judged sum b.energy (toward right f)
     weighs = ew ∙ ap (judged sum b.energy) ea
 
-    pub rank_many : counted ≡ Reached.Past → Plan.Damaged ≡ rank_seen b k d right count energy (Seen.Sound f)
+    pub rank_many : counted ≡ damaged → damaged ≡ rank_seen b k d right count energy (Result.Ok f)
     rank_many e = rw (past_case (leb (all (toward right f)) b.cells) (all (toward right f)) (sym counts ∙ e))
 
-    pub rank_loud : (n : ℕ) → counted ≡ Reached.Of n → weighed ≡ Reached.Past → Plan.Damaged ≡ rank_seen b k d right count energy (Seen.Sound f)
+    pub rank_loud : (n : ℕ) → counted ≡ Result.Ok n → weighed ≡ damaged → damaged ≡ rank_seen b k d right count energy (Result.Ok f)
     rank_loud n e q =
         rw (
           of_case (leb (all (toward right f)) b.cells) (all (toward right f)) n (sym counts ∙ e),
           past_case (leb (sum (toward right f)) b.energy) (sum (toward right f)) (sym weighs ∙ q),
         )
 
-    pub rank_goes : (n m : ℕ) (v : VersionNumber) (p : Plan) → counted ≡ Reached.Of n → weighed ≡ Reached.Of m → v ≡ towards right f
-        → p ≡ rank_next k d v f.last n m → p ≡ rank_seen b k d right count energy (Seen.Sound f)
+    pub rank_goes : (n m : ℕ) (v : VersionNumber) (p : Result Plan Damage) → counted ≡ Result.Ok n → weighed ≡ Result.Ok m → v ≡ towards right f
+        → p ≡ rank_next k d v f.last n m → p ≡ rank_seen b k d right count energy (Result.Ok f)
     rank_goes n m v p e q ev h =
         let N = of_value (leb (all (toward right f)) b.cells) (all (toward right f)) n (sym counts ∙ e) in
         let M = of_value (leb (sum (toward right f)) b.energy) (sum (toward right f)) m (sym weighs ∙ q) in
@@ -79,11 +80,11 @@ module _ (b : Bounds) (k : ℕ) (s : Standing) (count : ℕ) (energy : Energy) (
   abbrev ranked : Bool
   ranked = ltb k b.cells && (leb count b.cells && leb energy.0 b.energy)
 
-  pub rank_damaged : not ranked ≡ true → Plan.Damaged ≡ rank_of b k s count energy versions
+  pub rank_damaged : not ranked ≡ true → damaged ≡ rank_of b k s count energy versions
   unfolding rank_of
   rank_damaged q = rw (not-true ranked q)
 
-  pub rank_by : (right : Bool) (r r' : Seen) (p : Plan) → not ranked ≡ false → right ≡ turns_right b k s.depth → r ≡ look_of b s versions → r ≡ r'
+  pub rank_by : (right : Bool) (r r' : Result Fork Damage) (p : Result Plan Damage) → not ranked ≡ false → right ≡ turns_right b k s.depth → r ≡ look_of b s versions → r ≡ r'
       → p ≡ rank_seen b k s.depth right count energy.0 r' → p ≡ rank_of b k s count energy versions
   unfolding rank_of
   rank_by right r r' p q e er is h =
@@ -91,10 +92,10 @@ module _ (b : Bounds) (k : ℕ) (s : Standing) (count : ℕ) (energy : Energy) (
 
 -- Select's record is in range
 module _ (b : Bounds) (j : ℕ) (s : Standing) (x : NodeNumber) (passed : ℕ) (versions : List ℕ) where
-  abbrev selected : Plan
+  abbrev selected : Result Plan Damage
   selected = sure (leb b.height tallest) (select_of b j s x passed versions)
 
-  pub select_high : tallest < b.height → Plan.Damaged ≡ selected
+  pub select_high : tallest < b.height → damaged ≡ selected
   select_high h = rw (lt-leb b.height tallest h)
 
   module _ (h : b.height ≤ tallest) (up : ℕ) (eu : up ≡ x.0 / 2 ^ s.depth) where
@@ -107,7 +108,7 @@ module _ (b : Bounds) (j : ℕ) (s : Standing) (x : NodeNumber) (passed : ℕ) (
     chosen_is : (t : Bool) → chosen up ≡ t → chosen (x.0 / 2 ^ s.depth) ≡ t
     chosen_is t e = ap chosen (sym eu) ∙ e
 
-    pub select_damaged : not (chosen up) ≡ true → Plan.Damaged ≡ selected
+    pub select_damaged : not (chosen up) ≡ true → damaged ≡ selected
     unfolding select_of
     select_damaged q = rw (low, chosen_is false (not-true (chosen up) q))
 
@@ -118,10 +119,10 @@ module _ (b : Bounds) (j : ℕ) (s : Standing) (x : NodeNumber) (passed : ℕ) (
       pub select_passed : passed ≤ j
       select_passed = omega (arith, ltb-true passed j (and_first (ltb passed j) (leb passed b.cells) (and_first (ltb passed j && leb passed b.cells) (eqb (x.0 / 2 ^ s.depth) 1) goes)))
 
-      pub select_near : (r : Seen) (f : Fork) → r ≡ look_of b s versions → r ≡ Seen.Sound f → x.0 < 4611686018427387904
+      pub select_near : (r : Result Fork Damage) (f : Fork) → r ≡ look_of b s versions → r ≡ Result.Ok f → x.0 < 4611686018427387904
       select_near r f er is =
           select_small b s.depth x.0 h (look_depth b s versions r f er is) (and_second (ltb passed j && leb passed b.cells) (eqb (x.0 / 2 ^ s.depth) 1) goes)
 
-      pub select_by : (r r' : Seen) (p : Plan) → r ≡ look_of b s versions → r ≡ r' → p ≡ select_seen b j s.depth x.0 passed r' → p ≡ selected
+      pub select_by : (r r' : Result Fork Damage) (p : Result Plan Damage) → r ≡ look_of b s versions → r ≡ r' → p ≡ select_seen b j s.depth x.0 passed r' → p ≡ selected
       unfolding select_of
-      select_by r r' p er is g = rw (low, goes) (g ∙ ap (λ (z : Seen). select_seen b j s.depth x.0 passed z) (sym is ∙ er))
+      select_by r r' p er is g = rw (low, goes) (g ∙ ap (λ (z : Result Fork Damage). select_seen b j s.depth x.0 passed z) (sym is ∙ er))

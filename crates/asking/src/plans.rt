@@ -1,6 +1,7 @@
 // The plan of a query that goes on.
 // A query changes nothing but its own record.
 ghost use Rattle.std.specs.Prelude.{◌≡◌};
+ghost use Rattle.trie.specs.Leaf.{keep};
 
 use trie::{Damage, Next, Phase, Plan, Worker};
 

@@ -2,6 +2,7 @@
 // A sum past its bound is damage, and is never formed.
 ghost use Rattle.std.specs.Prelude.{◌≡◌, ◌+◌, ◌<◌, leb};
 ghost use Rattle.trie.specs.Choice.{pick};
+ghost use Rattle.trie.specs.Refusing.{damaged};
 ghost use Rattle.trie.specs.Asking.{passed_of, reached_of, rank_next, rank_seen, rank_of};
 
 use crate::looking::{at_side, look, side, turns_right};
@@ -17,7 +18,14 @@ fn only_if(t: bool, x: u64) -> u64
 }
 
 // What is passed so far, with the left side where the way turns right, and with the leaf at the last step.
-fn reach(right: bool, last: bool, running: u64, left: u64, leaf: u64, most: u64) -> Result<u64, Damage>
+fn reach(
+    right: bool,
+    last: bool,
+    running: u64,
+    left: u64,
+    leaf: u64,
+    most: u64,
+) -> Result<u64, Damage>
     ensures { result ≡ pick (leb (reached_of last leaf (passed_of right left running)) most) (Ok (reached_of last leaf (passed_of right left running))) damaged }
 {
     let beside = only_if(right, left);
@@ -32,7 +40,14 @@ fn reach(right: bool, last: bool, running: u64, left: u64, leaf: u64, most: u64)
     Ok(sum_within(passed, below, most))
 }
 
-fn rank_next(k: u64, depth: u64, v: VersionNumber, last: bool, count: u64, energy: u64) -> Result<Plan, Damage>
+fn rank_next(
+    k: u64,
+    depth: u64,
+    v: VersionNumber,
+    last: bool,
+    count: u64,
+    energy: u64,
+) -> Result<Plan, Damage>
     requires { depth + 1 < 18446744073709551616 }
     ensures { result ≡ rank_next k depth v last count energy }
 {
@@ -51,7 +66,15 @@ fn rank_next(k: u64, depth: u64, v: VersionNumber, last: bool, count: u64, energ
     }
 }
 
-fn rank_seen(b: Bounds, k: u64, depth: u64, right: bool, count: u64, energy: u64, f: Fork) -> Result<Plan, Damage>
+fn rank_seen(
+    b: Bounds,
+    k: u64,
+    depth: u64,
+    right: bool,
+    count: u64,
+    energy: u64,
+    f: Fork,
+) -> Result<Plan, Damage>
     requires { depth + 1 < 18446744073709551616 }
     ensures { result ≡ rank_seen b k depth right count energy (Ok f) }
 {
@@ -75,7 +98,14 @@ fn rank_seen(b: Bounds, k: u64, depth: u64, right: bool, count: u64, energy: u64
     rank_next(k, depth, side(right, f), f.last, all, sum)
 }
 
-pub fn rank(b: Bounds, k: u64, s: Standing, count: u64, energy: Energy, versions: &[u64]) -> Result<Plan, Damage>
+pub fn rank(
+    b: Bounds,
+    k: u64,
+    s: Standing,
+    count: u64,
+    energy: Energy,
+    versions: &[u64],
+) -> Result<Plan, Damage>
     ensures { result ≡ rank_of b k s count energy versions.now }
 {
     if !((k < b.cells) & ((count <= b.cells) & (energy.0 <= b.energy))) {

@@ -85,7 +85,14 @@ fn select_seen(b: Bounds, j: u64, depth: u64, x: u64, passed: u64, f: Fork) -> R
     }
 }
 
-pub fn select(b: Bounds, j: u64, s: Standing, x: NodeNumber, passed: u64, versions: &[u64]) -> Result<Plan, Damage>
+pub fn select(
+    b: Bounds,
+    j: u64,
+    s: Standing,
+    x: NodeNumber,
+    passed: u64,
+    versions: &[u64],
+) -> Result<Plan, Damage>
     ensures { result ≡ sure (leb b.height tallest) (select_of b j s x passed versions.now) }
 {
     if TALLEST < b.height {

@@ -12,12 +12,12 @@ unfolding find_of
 returns-then-b-k c = simp (le-ltb _ _ c.if-b-k.true)
 
 pub find_seen-requires : goal.find_seen-requires
-find_seen-requires c = omega (arith, look_depth c.args.b c.args.s c.args.versions.now _ _ c.look.ensures c.in-Sound.is)
+find_seen-requires c = omega (arith, look_depth c.args.b c.args.s c.args.versions.now _ _ c.look.ensures c.in-Ok.is)
 
-pub returns-in-Unsound : goal.returns-in-Unsound
+pub returns-in-Err : goal.returns-in-Err
 unfolding find_of
-returns-in-Unsound c = simp (lt-ltb _ _ c.if-b-k.false, sym c.look.ensures ∙ c.in-Unsound.is)
+returns-in-Err c = simp (lt-ltb _ _ c.if-b-k.false, sym c.look.ensures ∙ c.in-Err.is)
 
-pub returns-in-Sound : goal.returns-in-Sound
+pub returns-in-Ok : goal.returns-in-Ok
 unfolding find_of
-returns-in-Sound c = simp (lt-ltb _ _ c.if-b-k.false, sym c.look.ensures ∙ c.in-Sound.is, ← c.turns_right-right.ensures) c.find_seen.ensures
+returns-in-Ok c = simp (lt-ltb _ _ c.if-b-k.false, sym c.look.ensures ∙ c.in-Ok.is, ← c.turns_right-right.ensures) c.find_seen.ensures

@@ -14,14 +14,14 @@ returns-then-not-k-b c =
 
 pub rank_seen-requires : goal.rank_seen-requires
 rank_seen-requires c =
-    omega (arith, look_depth c.args.b c.args.s c.args.versions.now _ _ c.look.ensures c.in-Sound.is)
+    omega (arith, look_depth c.args.b c.args.s c.args.versions.now _ _ c.look.ensures c.in-Ok.is)
 
-pub returns-in-Unsound : goal.returns-in-Unsound
-returns-in-Unsound c =
+pub returns-in-Err : goal.returns-in-Err
+returns-in-Err c =
     rank_by c.args.b c.args.k c.args.s c.args.count c.args.energy _ _ _ _ _ (ap not c.if-not-k-b.false)
-    c.turns_right-right.ensures c.look.ensures c.in-Unsound.is refl
+    c.turns_right-right.ensures c.look.ensures c.in-Err.is refl
 
-pub returns-in-Sound : goal.returns-in-Sound
-returns-in-Sound c =
+pub returns-in-Ok : goal.returns-in-Ok
+returns-in-Ok c =
     rank_by c.args.b c.args.k c.args.s c.args.count c.args.energy _ _ _ _ _ (ap not c.if-not-k-b.false) c.turns_right-right.ensures
-    c.look.ensures c.in-Sound.is c.rank_seen.ensures
+    c.look.ensures c.in-Ok.is c.rank_seen.ensures

@@ -22,17 +22,17 @@ select_seen-requires c =
     let given = c.args in
     let tall = c.if-b-gt-TALLEST.false in
     let stands = ap not c.if-not-passed-j.false in (
-      omega (arith, tall, look_depth given.b given.s given.versions.now _ _ c.look.ensures c.in-Sound.is),
-      select_near given.b given.j given.s given.x given.passed given.versions.now tall _ c.ancestor.ensures stands _ _ c.look.ensures c.in-Sound.is,
+      omega (arith, tall, look_depth given.b given.s given.versions.now _ _ c.look.ensures c.in-Ok.is),
+      select_near given.b given.j given.s given.x given.passed given.versions.now tall _ c.ancestor.ensures stands _ _ c.look.ensures c.in-Ok.is,
       select_passed given.b given.j given.s given.x given.passed given.versions.now tall _ c.ancestor.ensures stands,
     )
 
-pub returns-in-Unsound : goal.returns-in-Unsound
-returns-in-Unsound c =
+pub returns-in-Err : goal.returns-in-Err
+returns-in-Err c =
     select_by c.args.b c.args.j c.args.s c.args.x c.args.passed c.args.versions.now c.if-b-gt-TALLEST.false _ c.ancestor.ensures
-    (ap not c.if-not-passed-j.false) _ _ _ c.look.ensures c.in-Unsound.is refl
+    (ap not c.if-not-passed-j.false) _ _ _ c.look.ensures c.in-Err.is refl
 
-pub returns-in-Sound : goal.returns-in-Sound
-returns-in-Sound c =
+pub returns-in-Ok : goal.returns-in-Ok
+returns-in-Ok c =
     select_by c.args.b c.args.j c.args.s c.args.x c.args.passed c.args.versions.now c.if-b-gt-TALLEST.false _ c.ancestor.ensures (ap not c.if-not-passed-j.false) _ _ _
-    c.look.ensures c.in-Sound.is c.select_seen.ensures
+    c.look.ensures c.in-Ok.is c.select_seen.ensures
