@@ -3,6 +3,7 @@
 use mathlib.Core.Path.{◌≡◌, refl, sym, ap, ◌∙◌}
 use mathlib.Core.Bool.{Bool, true, false, not, ◌&&◌, ◌||◌}
 use mathlib.Core.List.{List}
+use Rattle.std.specs.Prelude.{Result}
 use Prim.Native.Nat.{ℕ, zero, suc, ◌+◌, ◌*◌, ◌/◌, ◌≤◌}
 use native.Mathlib.Omega.{arith}
 use borrow.Author.Tests.{not-true, not-false, eqb-true, leb-true}
@@ -13,11 +14,13 @@ use Rattle.trie.specs.declared.Version.{Version}
 use Rattle.trie.specs.declared.Climb.{Climb}
 use Rattle.trie.specs.declared.Held.{Held}
 use Rattle.trie.specs.declared.Plan.{Plan}
+use Rattle.trie.specs.declared.Damage.{Damage}
 use Rattle.trie.specs.declared.Bounds.{Bounds}
 use Rattle.trie.specs.Choice.{pick}
 use Rattle.trie.specs.Size.{most_cells}
 use Rattle.trie.specs.Tables.{version, version_at}
 use Rattle.trie.specs.Record.{update_fits, leaf_of, above, climb_fits}
+use Rattle.trie.specs.Refusing.{damaged}
 use Rattle.trie.specs.Leaf.{sure}
 use Rattle.trie.specs.Refreshing.{sum_of, place_sum, join_of, refresh_held, refresh_of}
 use Rattle.trie.proofs.SizeLaws.{and_first, and_second}
@@ -32,7 +35,7 @@ above_le (suc d) y x e = by (eqb x (y / 2)) refl e (λ q. above_le d (y / 2) x q
     by true p q more = omega (arith, eqb-true x (y / 2) p)
     by false p q more = omega (arith, more q)
 
-sure_two : (s t : Bool) (p : Plan) → sure (s && t) p ≡ sure s (sure t p)
+sure_two : (s t : Bool) (p : Result Plan Damage) → sure (s && t) p ≡ sure s (sure t p)
 sure_two true t p = refl
 sure_two false t p = refl
 
@@ -53,10 +56,10 @@ module _ (b : Bounds) (c : Climb) (s : Held) (nodes versions : List ℕ) (t : Bo
   unfolding refresh_of
   refresh_sure e = ap (λ (x : Bool). sure x (refresh_held b c s nodes versions)) e ∙ sure_two (leb b.cells most_cells) (climb_fits b c) (refresh_held b c s nodes versions)
 
-  pub refresh_damaged : t ≡ (leb b.cells most_cells && climb_fits b c) → not t ≡ true → Plan.Damaged ≡ sure (leb b.cells most_cells) (refresh_of b c s nodes versions)
+  pub refresh_damaged : t ≡ (leb b.cells most_cells && climb_fits b c) → not t ≡ true → damaged ≡ sure (leb b.cells most_cells) (refresh_of b c s nodes versions)
   refresh_damaged e q = sym (ap (λ (x : Bool). sure x (refresh_held b c s nodes versions)) (not-true t q)) ∙ refresh_sure e
 
-  pub refresh_by : (s' : Held) (p : Plan) → t ≡ (leb b.cells most_cells && climb_fits b c) → not t ≡ false → s ≡ s' → p ≡ refresh_held b c s' nodes versions
+  pub refresh_by : (s' : Held) (p : Result Plan Damage) → t ≡ (leb b.cells most_cells && climb_fits b c) → not t ≡ false → s ≡ s' → p ≡ refresh_held b c s' nodes versions
       → p ≡ sure (leb b.cells most_cells) (refresh_of b c s nodes versions)
   refresh_by s' p e q is h =
       h ∙ ap (λ (x : Held). refresh_held b c x nodes versions) (sym is) ∙ sym (ap (λ (x : Bool). sure x (refresh_held b c s nodes versions)) (not-false t q)) ∙ refresh_sure e
@@ -74,15 +77,15 @@ module _ (b : Bounds) (c : Climb) (v l r : VersionNumber) (nodes versions : List
   low_is : (t : Bool) → t ≡ low left right → low (version_at versions l) (version_at versions r) ≡ t
   low_is t e = sym (e ∙ (λ i. low (el i) (er i)))
 
-  pub join_many : (t : Bool) → t ≡ few left right → not t ≡ true → Plan.Damaged ≡ join_of b c v l r nodes versions
+  pub join_many : (t : Bool) → t ≡ few left right → not t ≡ true → damaged ≡ join_of b c v l r nodes versions
   unfolding join_of
   join_many t e q = rw (few_is t e ∙ not-true t q)
 
-  pub join_loud : (t u : Bool) → t ≡ few left right → not t ≡ false → u ≡ low left right → not u ≡ true → Plan.Damaged ≡ join_of b c v l r nodes versions
+  pub join_loud : (t u : Bool) → t ≡ few left right → not t ≡ false → u ≡ low left right → not u ≡ true → damaged ≡ join_of b c v l r nodes versions
   unfolding join_of
   join_loud t u e q f g = rw (few_is t e ∙ not-false t q, low_is u f ∙ not-true u g)
 
-  pub join_places : (t u : Bool) (now : ℕ) (p : Plan) → t ≡ few left right → not t ≡ false → u ≡ low left right → not u ≡ false
+  pub join_places : (t u : Bool) (now : ℕ) (p : Result Plan Damage) → t ≡ few left right → not t ≡ false → u ≡ low left right → not u ≡ false
       → now ≡ get_or nodes c.node.0 0 → p ≡ place_sum b c now v (sum_of l r left right) → p ≡ join_of b c v l r nodes versions
   unfolding join_of
   join_places t u now p e q f g en h =
@@ -93,7 +96,7 @@ pub summed : (a b most r : ℕ) (t : Bool) → r ≡ pick (leb (a + b) most) (a 
 summed a b most r t e f g = e ∙ ap (λ (x : Bool). pick x (a + b) 0) (sym f ∙ not-false t g)
 
 -- the sums by the names that the code gives them
-pub sum_named : (b : Bounds) (c : Climb) (now : ℕ) (v l r : VersionNumber) (left right : Version) (count energy : ℕ) (p : Plan)
+pub sum_named : (b : Bounds) (c : Climb) (now : ℕ) (v l r : VersionNumber) (left right : Version) (count energy : ℕ) (p : Result Plan Damage)
     → count ≡ left.count + right.count → energy ≡ left.energy.0 + right.energy.0
     → p ≡ place_sum b c now v (version l.0 r.0 count energy 0) → p ≡ place_sum b c now v (sum_of l r left right)
 sum_named b c now v l r left right count energy p ec ee h = h ∙ (λ i. place_sum b c now v (version l.0 r.0 (ec i) (ee i) 0))
