@@ -22,11 +22,12 @@ pub returns : goal.returns
 unfolding start_record_of
 returns c =
     let allowed = sym c.is_allowed.ensures ∙ c.if-not-is_allowed.false in
+    let fits = sym c.operation_fits.ensures ∙ c.if-not-operation_fits.false in
     simp (
       allowed,
       sym c.is_roomy.ensures ∙ c.if-not-is_roomy.false,
       sym c.is_busy.ensures ∙ c.if-is_busy.false,
-      sym c.operation_fits.ensures ∙ c.if-not-operation_fits.false,
+      fits,
       c.in_ok-promised.was,
       ← (c.bounds.ensures ∙ bounds_are _ _ _ allowed),
     )
