@@ -7,11 +7,11 @@ ghost use Rattle.decibel.specs.Conversion.{convert_of};
 ghost use Rattle.decibel.specs.Answer.{told_of};
 
 // Whole decibels over the floor.
-#[derive(Clone, Copy)]
+#[derive(Clone, Copy, Default)]
 pub struct Level(pub u64);
 
 // A thousand at level 0, and ten times as much for every ten decibels.
-#[derive(Clone, Copy)]
+#[derive(Clone, Copy, Default)]
 pub struct Energy(pub u64);
 
 // A level above the highest has no energy.

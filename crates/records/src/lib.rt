@@ -13,23 +13,13 @@ use trie::{Bounds, Climb, MOST_CELLS, Operation, Phase, Query, Update, Worker};
 pub fn rested() -> Worker
     ensures { result ≡ idle }
 {
-    Worker { phase: Phase::Idle }
+    Worker::default()
 }
 
 pub fn is_busy(w: Worker) -> bool
     ensures { result ≡ busy w }
 {
-    let phase = w.phase;
-    match phase {
-        Phase::Idle => false,
-        Phase::Read(_) => true,
-        Phase::Swap(_, _) => true,
-        Phase::Refresh(_, _) => true,
-        Phase::Ask(_) => true,
-        Phase::Find(_, _) => true,
-        Phase::Rank(_, _, _, _) => true,
-        Phase::Select(_, _, _, _) => true,
-    }
+    !matches!(w.phase, Phase::Idle)
 }
 
 pub fn cell(u: Update) -> u64
@@ -51,6 +41,7 @@ fn loudness(u: Update) -> u64
 }
 
 // No branch hangs on whether a cell is inserted or deleted: nothing foretells that.
+#[tactic(auto, using(crate::proofs::Levels::fits_loudness))]
 pub fn update_fits(n: u64, u: Update) -> bool
     ensures { result ≡ update_fits n u }
 {
@@ -88,36 +79,21 @@ fn is_above(levels: u64, y: u64, x: u64) -> bool
 }
 
 // No climb fits where there are more cells than in any tree.
+#[tactic(auto, using(crate::proofs::Tests::fits_cell), unfolding(trie::specs::Record::climb_fits))]
 pub fn climb_fits(b: Bounds, c: Climb) -> bool
     ensures { result ≡ (leb b.cells most_cells && climb_fits b c) }
 {
-    let update = c.update;
-    let node = c.node;
-    let n = b.cells;
-    if MOST_CELLS < n {
-        return false;
-    }
-    if update_fits(n, update) {
-        let k = cell(update);
-        is_above(b.height, n + k, node.0) & (c.made <= b.share)
-    } else {
-        false
-    }
+    b.cells <= MOST_CELLS
+        && update_fits(b.cells, c.update)
+        && is_above(b.height, b.cells + cell(c.update), c.node.0) & (c.made <= b.share)
 }
 
 // Whether the worker has an update under way.
 pub fn is_updating(w: Worker) -> bool
     ensures { result ≡ updating w.phase }
 {
-    let phase = w.phase;
-    match phase {
-        Phase::Idle => false,
-        Phase::Read(_) => true,
-        Phase::Swap(_, _) => true,
-        Phase::Refresh(_, _) => true,
-        Phase::Ask(_) => false,
-        Phase::Find(_, _) => false,
-        Phase::Rank(_, _, _, _) => false,
-        Phase::Select(_, _, _, _) => false,
-    }
+    matches!(
+        w.phase,
+        Phase::Read(_) | Phase::Swap(_, _) | Phase::Refresh(_, _)
+    )
 }

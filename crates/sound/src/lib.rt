@@ -20,13 +20,14 @@ fn within_a_tree(n: u64) -> u64
 }
 
 // Where no tree has n cells these are the bounds of none.
+#[tactic(auto, unfolding(trie::specs::Sound::bounds_of, trie::specs::Size::height_of))]
 pub fn bounds(n: u64, nodes: &[u64], versions: &[u64]) -> Bounds
     ensures { result ≡ bounds_of (pick (leb n most_cells) n 0) nodes.now versions.now }
 {
     let cells = within_a_tree(n);
     let tall = height(cells);
     Bounds {
-        cells: cells,
+        cells,
         height: tall,
         energy: cells * CELL_ENERGY,
         share: tall + 1,
@@ -35,6 +36,7 @@ pub fn bounds(n: u64, nodes: &[u64], versions: &[u64]) -> Bounds
     }
 }
 
+#[tactic(auto, unfolding(trie::specs::Sound::used_sound))]
 pub fn is_used_sound(b: Bounds) -> bool
     ensures { result ≡ used_sound b }
 {
@@ -46,25 +48,16 @@ fn is_leaf(r: Version) -> bool
     ensures { result ≡ leaf_sound r }
 {
     let count = r.count;
-    if 1 < count {
-        return false;
-    }
     let bare = (r.left.0 == 0) & (r.right.0 == 0);
-    bare & ((r.energy.0 <= count * CELL_ENERGY) & (r.level.0 <= count * LOUDEST))
+    count <= 1 && (bare & ((r.energy.0 <= count * CELL_ENERGY) & (r.level.0 <= count * LOUDEST)))
 }
 
 fn is_inner(b: Bounds, r: Version) -> bool
     ensures { result ≡ inner_sound b r }
 {
-    let left = r.left;
-    let right = r.right;
-    if !is_numbered(b, left) {
-        return false;
-    }
-    if !is_numbered(b, right) {
-        return false;
-    }
-    ((r.count <= b.cells) & (r.energy.0 <= b.energy)) & (r.level.0 == 0)
+    is_numbered(b, r.left)
+        && is_numbered(b, r.right)
+        && (((r.count <= b.cells) & (r.energy.0 <= b.energy)) & (r.level.0 == 0))
 }
 
 fn is_numbered(b: Bounds, v: VersionNumber) -> bool
@@ -79,35 +72,26 @@ fn is_placed(b: Bounds, leaf: bool, r: Version) -> bool
     if leaf { is_leaf(r) } else { is_inner(b, r) }
 }
 
+#[tactic(auto, unfolding(trie::specs::Sound::sound_at))]
 pub fn is_sound(b: Bounds, leaf: bool, v: VersionNumber, r: Version) -> bool
     ensures { result ≡ sound_at b leaf v r }
 {
-    if is_numbered(b, v) {
-        is_placed(b, leaf, r)
-    } else {
-        false
-    }
+    is_numbered(b, v) && is_placed(b, leaf, r)
 }
 
 // The version of number v, as it stands in the table; it is read only where there is such a number.
+#[tactic(auto, unfolding(trie::specs::Sound::sound_in, trie::specs::Sound::sound_at))]
 pub fn is_sound_in(b: Bounds, leaf: bool, versions: &[u64], v: VersionNumber) -> bool
     ensures { result ≡ sound_in b leaf versions.now v }
 {
-    if is_numbered(b, v) {
-        is_placed(b, leaf, load(versions, v))
-    } else {
-        false
-    }
+    is_numbered(b, v) && is_placed(b, leaf, load(versions, v))
 }
 
 // Whether a sum stays within a bound, without forming it where it would not.
 pub fn is_within(a: u64, b: u64, most: u64) -> bool
     ensures { result ≡ leb (a + b) most }
 {
-    if most < a {
-        return false;
-    }
-    b <= most - a
+    a <= most && b <= most - a
 }
 
 // A sum that stays within a bound, and 0 for one that does not.

@@ -1,4 +1,3 @@
--- What a test of this crate's says in the words of the definitions, and then what two functions of the tables use:
--- numbers that would not fit if they were doubled, and where a version's words lie.
+-- What a test of this crate's says in the words of the definitions.
+-- The crates above cite it.
 pub mod Tests
-pub mod Halves

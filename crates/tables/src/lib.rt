@@ -6,4 +6,4 @@ mod size;
 mod words;
 
 pub use size::{ancestor, height, is_allowed};
-pub use words::{is_roomy, load, put, room, store, word};
+pub use words::{is_roomy, is_roomy_by, load, put, room, room_by, store, word};

@@ -5,12 +5,14 @@ ghost use Rattle.trie.specs.Size.{allowed, height_of};
 
 use trie::MOST_CELLS;
 
+#[tactic(auto, unfolding(trie::specs::Size::allowed))]
 pub fn is_allowed(n: u64) -> bool
     ensures { result ≡ allowed n }
 {
     (u64::count_ones(n) == 1) & ((2 <= n) & (n <= MOST_CELLS))
 }
 
+#[tactic(auto, unfolding(trie::specs::Size::height_of))]
 pub fn height(n: u64) -> u64
     ensures { result ≡ height_of n }
 {

@@ -1,7 +1,8 @@
 // The lent tables, word by word and version by version; no index of a caller's can fall outside.
 // Whatever a table does not have reads as 0, and is not written.
-ghost use Rattle.std.specs.Prelude.{◌≡◌, get_or, set};
-ghost use Rattle.trie.specs.Tables.{version, room_of, version_at, version_put, roomy};
+ghost use Rattle.std.specs.Prelude.{◌≡◌, ◌&&◌, ◌*◌, ◌-◌, ◌/◌, Some, None, leb, get_or, set};
+ghost use Rattle.trie.specs.Choice.{pick};
+ghost use Rattle.trie.specs.Tables.{width, room_by, room_of, version_at, version_put, roomy_by, roomy};
 
 use decibel::{Energy, Level};
 use trie::{MOST_VERSIONS, VERSION_WORDS, Version, VersionNumber};
@@ -9,10 +10,10 @@ use trie::{MOST_VERSIONS, VERSION_WORDS, Version, VersionNumber};
 pub fn word(table: &[u64], i: u64) -> u64
     ensures { result ≡ get_or table.now i 0 }
 {
-    let at = i as usize;
-    if at < table.len() { table[at] } else { 0 }
+    table.get(i as usize).copied().unwrap_or(0)
 }
 
+// No `get_mut`: of what it lends only the length is known afterwards, so that the proof does not close.
 pub fn put(table: &mut [u64], i: u64, x: u64)
     ensures { table.new ≡ set table.old i x }
 {
@@ -22,30 +23,24 @@ pub fn put(table: &mut [u64], i: u64, x: u64)
     }
 }
 
-fn unmarked() -> Version
-    ensures { result ≡ version 0 0 0 0 0 }
+// Where the words of a version begin, if a table of so many words has it.
+fn place(words: usize, v: VersionNumber) -> Option<usize>
+    ensures { result ≡ pick (leb 1 v.0 && leb v.0 (words / width)) (Some (width * (v.0 - 1))) None }
 {
-    Version {
-        left: VersionNumber(0),
-        right: VersionNumber(0),
-        count: 0,
-        energy: Energy(0),
-        level: Level(0),
+    if 1 <= v.0 && v.0 <= words as u64 / VERSION_WORDS {
+        Some((VERSION_WORDS * (v.0 - 1)) as usize)
+    } else {
+        None
     }
 }
 
+#[tactic(auto, unfolding(trie::specs::Tables::version_at))]
 pub fn load(versions: &[u64], v: VersionNumber) -> Version
     ensures { result ≡ version_at versions.now v }
 {
-    let number = v.0;
-    let length = versions.len() as u64;
-    if number < 1 {
-        return unmarked();
-    }
-    if length / VERSION_WORDS < number {
-        return unmarked();
-    }
-    let at = (VERSION_WORDS * (number - 1)) as usize;
+    let Some(at) = place(versions.len(), v) else {
+        return Version::default();
+    };
     Version {
         left: VersionNumber(versions[at]),
         right: VersionNumber(versions[at + 1]),
@@ -55,18 +50,13 @@ pub fn load(versions: &[u64], v: VersionNumber) -> Version
     }
 }
 
+#[tactic(auto, unfolding(trie::specs::Tables::version_put))]
 pub fn store(versions: &mut [u64], v: VersionNumber, r: Version)
     ensures { versions.new ≡ version_put versions.old v r }
 {
-    let number = v.0;
-    let length = versions.len() as u64;
-    if number < 1 {
+    let Some(at) = place(versions.len(), v) else {
         return;
-    }
-    if length / VERSION_WORDS < number {
-        return;
-    }
-    let at = (VERSION_WORDS * (number - 1)) as usize;
+    };
     versions[at] = r.left.0;
     versions[at + 1] = r.right.0;
     versions[at + 2] = r.count;
@@ -74,22 +64,30 @@ pub fn store(versions: &mut [u64], v: VersionNumber, r: Version)
     versions[at + 4] = r.level.0;
 }
 
-// V: a longer table is no refusal, but its further versions are not used.
+// V of a table of so many words: a longer table is no refusal, but its further versions are not used.
+pub fn room_by(words: usize) -> u64
+    ensures { result ≡ room_by words }
+{
+    (words as u64 / VERSION_WORDS).min(MOST_VERSIONS)
+}
+
+#[tactic(auto, unfolding(trie::specs::Tables::room_of))]
 pub fn room(versions: &[u64]) -> u64
     ensures { result ≡ room_of versions.now }
 {
-    let whole = (versions.len() as u64) / VERSION_WORDS;
-    if whole <= MOST_VERSIONS {
-        whole
-    } else {
-        MOST_VERSIONS
-    }
+    room_by(versions.len())
 }
 
-// Twice n is never formed: it may be past the numbers.
+// Whether tables of so many words are large enough. Twice n is never formed: it may be past the numbers.
+pub fn is_roomy_by(n: u64, nodes: usize, versions: usize) -> bool
+    ensures { result ≡ roomy_by n nodes versions }
+{
+    (n <= nodes as u64 / 2) & (n <= (room_by(versions) + 1) / 2)
+}
+
+#[tactic(auto, unfolding(trie::specs::Tables::roomy))]
 pub fn is_roomy(n: u64, nodes: &[u64], versions: &[u64]) -> bool
     ensures { result ≡ roomy n nodes.now versions.now }
 {
-    let most = room(versions);
-    (n <= nodes.len() as u64 / 2) & (n <= (most + 1) / 2)
+    is_roomy_by(n, nodes.len(), versions.len())
 }

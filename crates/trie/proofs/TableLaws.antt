@@ -2,7 +2,8 @@
 -- Assumes nothing.
 use Rattle.std.specs.Prelude.{◌≡◌, ◌≢◌, Bool, List, ℕ, ◌+◌, ◌*◌, ◌-◌, ◌/◌, ◌<◌, ◌≤◌, leb, length, get_or, set}
 use Rattle.std.proofs.Math.Path.{refl}
-use Rattle.std.proofs.Common.{ap, ◌∙◌, arith, le-leb, leb-true, leb-false, length-set, get_or-set_same, get_or-set_other}
+use Rattle.std.proofs.Math.Nat.{min-le_left, min-le_right}
+use Rattle.std.proofs.Common.{ap, ◌∙◌, arith, le-leb, leb-true, length-set, get_or-set_same, get_or-set_other}
 use Rattle.std.proofs.Math.Bool.{true, false}
 use Rattle.trie.specs.declared.VersionNumber.{VersionNumber}
 use Rattle.trie.specs.declared.Version.{Version}
@@ -104,19 +105,11 @@ module _ (vs : List ℕ) (v u : VersionNumber) (r : Version) (h : u.0 ≢ v.0) w
 -- V is no more than the table holds, nor more than the most
 pub room_length : (vs : List ℕ) → room_of vs ≤ length vs / width
 unfolding room_of
-room_length vs = by (leb (length vs / width) most_versions) refl
-  where
-    by : (t : Bool) → leb (length vs / width) most_versions ≡ t → pick t (length vs / width) most_versions ≤ length vs / width
-    by true e = omega arith
-    by false e = let l = leb-false (length vs / width) most_versions e in omega arith
+room_length vs = min-le_left _ _
 
 pub room_most : (vs : List ℕ) → room_of vs ≤ most_versions
 unfolding room_of
-room_most vs = by (leb (length vs / width) most_versions) refl
-  where
-    by : (t : Bool) → leb (length vs / width) most_versions ≡ t → pick t (length vs / width) most_versions ≤ most_versions
-    by true e = leb-true _ _ e
-    by false e = omega arith
+room_most vs = min-le_right _ _
 
 -- V is told by the table's length
 pub room_same : (vs ws : List ℕ) → length ws ≡ length vs → room_of ws ≡ room_of vs
@@ -125,13 +118,13 @@ room_same vs ws e = rw e
 
 -- what refusal 3 leaves to the rest of a call
 pub roomy_nodes : (n : ℕ) (nodes vs : List ℕ) → roomy n nodes vs ≡ true → 2 * n ≤ length nodes
-unfolding roomy
+unfolding roomy room_of
 roomy_nodes n nodes vs e = leb-true _ _ (and_first (leb (2 * n) (length nodes)) (leb (2 * n - 1) (room_of vs)) e)
 
 pub roomy_versions : (n : ℕ) (nodes vs : List ℕ) → roomy n nodes vs ≡ true → 2 * n - 1 ≤ room_of vs
-unfolding roomy
+unfolding roomy room_of
 roomy_versions n nodes vs e = leb-true _ _ (and_second (leb (2 * n) (length nodes)) (leb (2 * n - 1) (room_of vs)) e)
 
 pub roomy_same : (n : ℕ) (nodes nodes' vs vs' : List ℕ) → length nodes' ≡ length nodes → length vs' ≡ length vs → roomy n nodes' vs' ≡ roomy n nodes vs
-unfolding roomy
-roomy_same n nodes nodes' vs vs' p q = rw (p, room_same vs vs' q)
+unfolding roomy room_of
+roomy_same n nodes nodes' vs vs' p q = rw (p, q)

@@ -1,6 +1,6 @@
 -- How versions and nodes stand in the lent tables.
 -- Document 01, "Tables" and the row "versions V". Assumes nothing.
-use Rattle.std.specs.Prelude.{Bool, ◌&&◌, List, ℕ, ◌+◌, ◌*◌, ◌-◌, ◌/◌, leb, length, get_or, set}
+use Rattle.std.specs.Prelude.{Bool, ◌&&◌, List, ℕ, ◌+◌, ◌*◌, ◌-◌, ◌/◌, leb, min, length, get_or, set}
 use Rattle.trie.specs.declared.VersionNumber.{VersionNumber}
 use Rattle.trie.specs.declared.Version.{Version}
 use Rattle.trie.specs.Choice.{pick}
@@ -9,12 +9,15 @@ use Rattle.trie.specs.Choice.{pick}
 abbrev pub width : ℕ
 width = 5
 
--- V: as many whole versions as the table holds, but no more than a million
+-- V: as many whole versions as a table of so many words holds, but no more than a million
 abbrev pub most_versions : ℕ
 most_versions = 1000000
 
+abbrev pub room_by : ℕ → ℕ
+room_by words = min (words / width) most_versions
+
 unfoldable pub room_of : List ℕ → ℕ
-room_of versions = pick (leb (length versions / width) most_versions) (length versions / width) most_versions
+room_of versions = room_by (length versions)
 
 -- the count of versions used, and the current version of node x
 abbrev pub used_of : List ℕ → ℕ
@@ -47,6 +50,9 @@ version_at versions v = pick (stored versions v) (words_at versions (width * (v.
 unfoldable pub version_put : List ℕ → VersionNumber → Version → List ℕ
 version_put versions v r = pick (stored versions v) (words_put versions (width * (v.0 - 1)) r) versions
 
--- the tables are large enough for n cells: refusal 3 where not
+-- tables of so many words are large enough for n cells: refusal 3 where not
+abbrev pub roomy_by : ℕ → ℕ → ℕ → Bool
+roomy_by n nodes versions = leb (2 * n) nodes && leb (2 * n - 1) (room_by versions)
+
 unfoldable pub roomy : ℕ → List ℕ → List ℕ → Bool
-roomy n nodes versions = leb (2 * n) (length nodes) && leb (2 * n - 1) (room_of versions)
+roomy n nodes versions = roomy_by n (length nodes) (length versions)

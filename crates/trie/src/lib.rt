@@ -24,10 +24,10 @@ pub const VERSION_WORDS: u64 = 5;
 pub struct NodeNumber(pub u64);
 
 // Versions are numbered from 1; a leaf's version has 0 for left and right.
-#[derive(Clone, Copy)]
+#[derive(Clone, Copy, Default)]
 pub struct VersionNumber(pub u64);
 
-#[derive(Clone, Copy)]
+#[derive(Clone, Copy, Default)]
 pub struct Version {
     pub left: VersionNumber,
     pub right: VersionNumber,
@@ -85,8 +85,9 @@ pub struct Standing {
 }
 
 // What a worker does next, with no more than it knows by then.
-#[derive(Clone, Copy)]
+#[derive(Clone, Copy, Default)]
 pub enum Phase {
+    #[default]
     Idle,
     Read(Update),
     Swap(Update, VersionNumber),
@@ -97,7 +98,7 @@ pub enum Phase {
     Select(u64, Standing, NodeNumber, u64),
 }
 
-#[derive(Clone, Copy)]
+#[derive(Clone, Copy, Default)]
 pub struct Worker {
     pub phase: Phase,
 }
