@@ -1,5 +1,4 @@
--- Workers put to rest as one row: the first of the board replaced by so many idle ones, which is what open leaves.
--- And how an open ends by the opening of its tables.
+-- Open, put together: as many idle workers as rest at once are what open leaves, and the tables are opened as they are for themselves.
 -- Assumes nothing.
 use Rattle.std.specs.Prelude.{◌≡◌, refl, Bool, true, false, ◌&&◌, List, [], ◌∷◌, ◌++◌, ℕ, zero, suc, ◌≤◌, leb, length, set, take, drop, replicate}
 use Rattle.std.proofs.Common.{sym, ap, ◌∙◌, arith, leb-true}
@@ -38,12 +37,12 @@ module _ (nodes versions filled_nodes filled_versions nodes' versions' : List �
   abbrev whole : Bool → After Ok
   whole roomy = check roomy 3 (state nodes versions before) (after (gives ok) (state filled_nodes filled_versions board))
 
-  pub open_refused : (roomy : Bool) (number : ℕ) → ◌≡◌ {A = Opened} (record { told = refused number; nodes = nodes'; versions = versions' }) (opened roomy)
+  pub tables_refused : (roomy : Bool) (number : ℕ) → ◌≡◌ {A = Opened} (record { told = refused number; nodes = nodes'; versions = versions' }) (opened roomy)
       → after (refused number) (state nodes' versions' before) ≡ whole roomy
-  open_refused true number e = let t = ap (λ (r : Opened). r.told) e in cc
-  open_refused false number e = ap (λ (r : Opened). after r.told (state r.nodes r.versions before)) e
+  tables_refused true number e = let t = ap (λ (r : Opened). r.told) e in cc
+  tables_refused false number e = ap (λ (r : Opened). after r.told (state r.nodes r.versions before)) e
 
-  pub open_rests : (roomy : Bool) → ◌≡◌ {A = Opened} (record { told = gives ok; nodes = nodes'; versions = versions' }) (opened roomy)
+  pub tables_opened : (roomy : Bool) → ◌≡◌ {A = Opened} (record { told = gives ok; nodes = nodes'; versions = versions' }) (opened roomy)
       → after (gives ok) (state nodes' versions' board) ≡ whole roomy
-  open_rests true e = ap (λ (r : Opened). after r.told (state r.nodes r.versions board)) e
-  open_rests false e = let t = ap (λ (r : Opened). r.told) e in cc
+  tables_opened true e = ap (λ (r : Opened). after r.told (state r.nodes r.versions board)) e
+  tables_opened false e = let t = ap (λ (r : Opened). r.told) e in cc

@@ -6,7 +6,7 @@ use Rattle.trie.specs.Calls.{open_of}
 use Rattle.trie.specs.Opening.{Opened, open_tables_of}
 use Rattle.steps.proofs.Damages.{goes_out}
 use Rattle.judging.proofs.JudgingLaws.{manned_by_lem}
-use Rattle.board.proofs.OpeningLaws.{seats_enough, rests, open_refused, open_rests}
+use Rattle.board.proofs.OpeningLaws.{seats_enough, rests, tables_refused, tables_opened}
 use Rattle.board.proofs.opening.open.Goals as goal
 
 pub returns-then-not-is_manned : goal.returns-then-not-is_manned
@@ -19,7 +19,7 @@ unfolding open_of open_tables_of
 returns-in_err-open_tables c =
     let allowed = sym c.is_allowed.ensures ∙ c.if-not-is_allowed.false in
     simp (allowed, manned_by_lem c.args.w c.args.board.now ∙ sym c.is_manned.ensures ∙ c.if-not-is_manned.false, goes_out _ _ c.from_residual.ensures.1)
-    (open_refused _ _ _ _ _ _ _ _ _ _ (simp allowed at c.in_err-open_tables.ensures))
+    (tables_refused _ _ _ _ _ _ _ _ _ _ (simp allowed at c.in_err-open_tables.ensures))
 
 pub slice_bounds-fill-end : goal.slice_bounds-fill-end
 slice_bounds-fill-end c = seats_enough _ _ (sym c.is_manned.ensures ∙ c.if-not-is_manned.false)
@@ -34,4 +34,4 @@ returns c =
     let l = seats_enough _ _ (sym c.is_manned.ensures ∙ c.if-not-is_manned.false) in
     let allowed = sym c.is_allowed.ensures ∙ c.if-not-is_allowed.false in
     simp (allowed, manned_by_lem c.args.w c.args.board.now ∙ sym c.is_manned.ensures ∙ c.if-not-is_manned.false, c.fill.ensures.after (λ y e. e), c.rested.ensures, rests c.args.w c.args.board.now l)
-    (open_rests _ _ _ _ _ _ c.args.board.now _ _ (simp allowed at c.in_ok-open_tables.ensures))
+    (tables_opened _ _ _ _ _ _ c.args.board.now _ _ (simp allowed at c.in_ok-open_tables.ensures))
