@@ -3,5 +3,3 @@
 pub mod PromisingLaws
 pub mod OpeningLaws
 pub mod Decided
--- What the proofs of a start and of a step share.
-pub mod Refusals

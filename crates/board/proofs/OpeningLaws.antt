@@ -1,71 +1,48 @@
--- Open, put together again: the tables as opening them leaves them, and as many workers at rest as the answer lets rest, are what open leaves.
+-- Open, put together: as many idle workers as rest at once are what open leaves, and the tables are opened as they are for themselves.
 -- Assumes nothing.
-use Rattle.std.specs.Prelude.{◌≡◌, Bool, ◌&&◌, List, ℕ, suc, ◌≤◌, length, set}
-use Rattle.std.proofs.Math.Path.{refl, ap}
-use Rattle.std.proofs.Common.{sym, ◌∙◌}
-use Rattle.std.proofs.Math.Bool.{true, false}
-use native.Mathlib.Omega.{arith}
-use borrow.Author.Tests.{leb-true}
-use Rattle.std.proofs.Math.Dec.{leb}
+use Rattle.std.specs.Prelude.{◌≡◌, refl, Bool, true, false, ◌&&◌, List, [], ◌∷◌, ◌++◌, ℕ, zero, suc, ◌≤◌, leb, length, set, take, drop, replicate}
+use Rattle.std.proofs.Common.{sym, ap, ◌∙◌, arith, leb-true}
 use Rattle.decibel.specs.Told.{refused, gives}
 use Rattle.trie.specs.declared.Worker.{Worker}
-use Rattle.trie.specs.Choice.{pick}
-use Rattle.trie.specs.Size.{allowed, most_workers}
+use Rattle.trie.specs.Size.{most_workers}
 use Rattle.trie.proofs.SizeLaws.{and_second}
-use Rattle.trie.specs.Tables.{roomy}
 use Rattle.trie.specs.Record.{idle}
 use Rattle.trie.specs.Values.{Ok, ok}
-use Rattle.trie.specs.Opening.{Opened, filled, open_nodes, open_versions, open_tables_of, open_board, check_tables}
-use Rattle.trie.specs.Calls.{State, state, After, after, check, open_of}
+use Rattle.trie.specs.Opening.{Opened, filled, open_board, check_tables}
+use Rattle.trie.specs.Calls.{After, state, after, check}
 use Rattle.judging.specs.Judging.{manned_by}
-use Rattle.judging.proofs.JudgingLaws.{manned_by_lem}
-use Rattle.board.specs.Opening.{open_manned_of, resting_of}
 
--- all that is lent, from the tables and the board
-abbrev pub opened_at : Opened → ℕ → List Worker → After Ok
-opened_at r w board = after r.told (state r.nodes r.versions (open_board (resting_of r.told w) board))
+-- a board with a record for each worker is as long
+pub seats_enough : (w seats : ℕ) → manned_by w seats ≡ true → w ≤ seats
+unfolding manned_by
+seats_enough w seats e = leb-true w seats (and_second (leb 1 w && leb w most_workers) (leb w seats) e)
 
-module _ (n w : ℕ) (nodes versions : List ℕ) (board : List Worker) where
-  abbrev s : State
-  s = state nodes versions board
-
-  abbrev whole : Opened
-  whole = record { told = gives ok; nodes = open_nodes n nodes; versions = open_versions n versions }
-
-  put_by : (p m r : Bool) → opened_at (pick m (check_tables p 1 nodes versions (check_tables r 3 nodes versions whole)) (record { told = refused (pick p 2 1); nodes = nodes; versions = versions })) w board
-      ≡ check p 1 s (check m 2 s (check r 3 s (after (gives ok) (state (open_nodes n nodes) (open_versions n versions) (open_board w board)))))
-  unfolding filled
-  put_by true true true = refl
-  put_by true true false = refl
-  put_by false true r = refl
-  put_by true false r = refl
-  put_by false false r = refl
-
-  pub open_put : opened_at (open_manned_of n w (length board) nodes versions) w board ≡ open_of n w s
-  unfolding open_manned_of open_tables_of open_of
-  open_put =
-      put_by (allowed n) (manned_by w (length board)) (roomy n nodes versions)
-      ∙ ap (λ (m : Bool). check (allowed n) 1 s (check m 2 s (check (roomy n nodes versions) 3 s (after (gives ok) (state (open_nodes n nodes) (open_versions n versions) (open_board w board)))))) (sym (manned_by_lem w board))
-
-  rests_by : (p m r : Bool) → manned_by w (length board) ≡ m
-      → resting_of (pick m (check_tables p 1 nodes versions (check_tables r 3 nodes versions whole)) (record { told = refused (pick p 2 1); nodes = nodes; versions = versions })).told w ≤ length board
-  unfolding manned_by
-  rests_by true true true e = leb-true w (length board) (and_second (leb 1 w && leb w most_workers) (leb w (length board)) e)
-  rests_by true true false e = omega arith
-  rests_by false true r e = omega arith
-  rests_by true false r e = omega arith
-  rests_by false false r e = omega arith
-
-  -- no more workers rest than the board has records
-  pub open_rests : resting_of (open_manned_of n w (length board) nodes versions).told w ≤ length board
-  unfolding open_manned_of open_tables_of
-  open_rests = rests_by (allowed n) (manned_by w (length board)) (roomy n nodes versions) refl
-
--- one worker more at rest
-pub rests_next : (w : ℕ) (board : List Worker) → set (open_board w board) w idle ≡ open_board (suc w) board
+first_rests : (k : ℕ) (r : Worker) (board : List Worker) → open_board (suc k) (r ∷ board) ≡ idle ∷ open_board k board
 unfolding filled
-rests_next w board = refl
+first_rests zero r board = refl
+first_rests (suc k) r board = ap (λ (b : List Worker). set b (suc k) idle) (first_rests k r board)
 
-pub rests_none : (board : List Worker) → open_board 0 board ≡ board
+pub rests : (w : ℕ) (board : List Worker) → w ≤ length board → replicate (length (take w board)) idle ++ drop w board ≡ open_board w board
 unfolding filled
-rests_none board = refl
+rests zero board l = refl
+rests (suc w) [] l = absurd (omega arith)
+rests (suc w) (r ∷ board) l = ap (λ (b : List Worker). idle ∷ b) (rests w board (omega arith)) ∙ sym (first_rests w r board)
+
+-- ---- the tables are opened, or too short
+
+module _ (nodes versions filled_nodes filled_versions nodes' versions' : List ℕ) (before board : List Worker) where
+  abbrev opened : Bool → Opened
+  opened roomy = check_tables roomy 3 nodes versions (record { told = gives ok; nodes = filled_nodes; versions = filled_versions })
+
+  abbrev whole : Bool → After Ok
+  whole roomy = check roomy 3 (state nodes versions before) (after (gives ok) (state filled_nodes filled_versions board))
+
+  pub tables_refused : (roomy : Bool) (number : ℕ) → ◌≡◌ {A = Opened} (record { told = refused number; nodes = nodes'; versions = versions' }) (opened roomy)
+      → after (refused number) (state nodes' versions' before) ≡ whole roomy
+  tables_refused true number e = let t = ap (λ (r : Opened). r.told) e in cc
+  tables_refused false number e = ap (λ (r : Opened). after r.told (state r.nodes r.versions before)) e
+
+  pub tables_opened : (roomy : Bool) → ◌≡◌ {A = Opened} (record { told = gives ok; nodes = nodes'; versions = versions' }) (opened roomy)
+      → after (gives ok) (state nodes' versions' board) ≡ whole roomy
+  tables_opened true e = ap (λ (r : Opened). after r.told (state r.nodes r.versions board)) e
+  tables_opened false e = let t = ap (λ (r : Opened). r.told) e in cc

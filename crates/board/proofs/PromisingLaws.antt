@@ -1,14 +1,15 @@
 -- What is promised is what the count of the updates leaves due: one more worker of both, and bounds on the count.
 -- Assumes nothing.
-use Rattle.std.specs.Prelude.{◌≡◌, refl, Bool, true, false, ◌&&◌, List, [], ◌∷◌, ℕ, zero, suc, ◌+◌, ◌*◌, ◌-◌, ◌%◌, ◌≤◌, leb, get_or}
+use Rattle.std.specs.Prelude.{◌≡◌, refl, Bool, true, false, ◌&&◌, List, [], ◌∷◌, ℕ, zero, suc, ◌+◌, ◌*◌, ◌-◌, ◌%◌, ◌≤◌, leb, get_or, take, Result}
 use Rattle.std.proofs.Common.{sym, ap, ◌∙◌, mul-le-mul, arith, leb-true, le-leb}
 use Rattle.std.proofs.lemmas.Nat.{trailing_le}
 use Rattle.trie.specs.declared.Phase.{Phase}
-use Rattle.trie.specs.declared.Promised.{Promised}
+use Rattle.trie.specs.declared.Damage.{Damage}
 use Rattle.trie.specs.declared.Worker.{Worker}
 use Rattle.trie.specs.Choice.{pick}
 use Rattle.trie.specs.Size.{height_of}
 use Rattle.trie.proofs.SizeLaws.{and_first, and_second}
+use Rattle.trie.specs.Refusing.{damaged}
 use Rattle.trie.specs.Record.{idle, owed_phase, together, promised_of}
 use Rattle.records.specs.Phases.{updating}
 use Rattle.board.specs.declared.promising.Tally.{Tally}
@@ -52,28 +53,28 @@ tally_due share w board l = mul-le-mul (tally_updates share w board) l
 
 -- ---- one more worker counted
 
-none_made : (share : ℕ) (x y : Promised) → pick (leb 0 share) x y ≡ x
+none_made : (share : ℕ) (x y : Result ℕ Damage) → pick (leb 0 share) x y ≡ x
 none_made share x y = ap (λ (t : Bool). pick t x y) (le-leb 0 share (omega arith))
 
 -- a number within its share is below 128
 climb_due : (share updates made part : ℕ) (t : Bool) → leb part share ≡ t → share ≤ most_share → made ≤ updates * share
-    → pick t (Promised.Of ((updates + 1) * share - (made + part % 128))) Promised.Damaged ≡ together (Promised.Of (updates * share - made)) (pick t (Promised.Of (share - part)) Promised.Damaged)
-climb_due share updates made part true e l h = ap Promised.Of (omega (arith, l, h, leb-true part share e))
+    → pick t (Result.Ok ((updates + 1) * share - (made + part % 128))) damaged ≡ together (Result.Ok (updates * share - made)) (pick t (Result.Ok (share - part)) damaged)
+climb_due share updates made part true e l h = ap Result.Ok (omega (arith, l, h, leb-true part share e))
 climb_due share updates made part false e l h = refl
 
 within_due : (share updates made : ℕ) (p : Phase) → share ≤ most_share → made ≤ updates * share
-    → pick (leb (made_of p) share) (Promised.Of ((updates + pick (updating p) 1 0) * share - (made + made_of p % 128))) Promised.Damaged ≡ together (Promised.Of (updates * share - made)) (owed_phase share p)
-within_due share updates made Phase.Idle l h = none_made share _ _ ∙ ap Promised.Of (omega (arith, h))
-within_due share updates made (Phase.Read u) l h = none_made share _ _ ∙ ap Promised.Of (omega (arith, h))
-within_due share updates made (Phase.Swap u v) l h = none_made share _ _ ∙ ap Promised.Of (omega (arith, h))
+    → pick (leb (made_of p) share) (Result.Ok ((updates + pick (updating p) 1 0) * share - (made + made_of p % 128))) damaged ≡ together (Result.Ok (updates * share - made)) (owed_phase share p)
+within_due share updates made Phase.Idle l h = none_made share _ _ ∙ ap Result.Ok (omega (arith, h))
+within_due share updates made (Phase.Read u) l h = none_made share _ _ ∙ ap Result.Ok (omega (arith, h))
+within_due share updates made (Phase.Swap u v) l h = none_made share _ _ ∙ ap Result.Ok (omega (arith, h))
 within_due share updates made (Phase.Refresh c held) l h = climb_due share updates made c.made (leb c.made share) refl l h
-within_due share updates made (Phase.Ask q) l h = none_made share _ _ ∙ ap Promised.Of (omega (arith, h))
-within_due share updates made (Phase.Find k s) l h = none_made share _ _ ∙ ap Promised.Of (omega (arith, h))
-within_due share updates made (Phase.Rank k s count energy) l h = none_made share _ _ ∙ ap Promised.Of (omega (arith, h))
-within_due share updates made (Phase.Select j s x passed) l h = none_made share _ _ ∙ ap Promised.Of (omega (arith, h))
+within_due share updates made (Phase.Ask q) l h = none_made share _ _ ∙ ap Result.Ok (omega (arith, h))
+within_due share updates made (Phase.Find k s) l h = none_made share _ _ ∙ ap Result.Ok (omega (arith, h))
+within_due share updates made (Phase.Rank k s count energy) l h = none_made share _ _ ∙ ap Result.Ok (omega (arith, h))
+within_due share updates made (Phase.Select j s x passed) l h = none_made share _ _ ∙ ap Result.Ok (omega (arith, h))
 
 either_due : (share updates made : ℕ) (within : Bool) (p : Phase) → share ≤ most_share → (within ≡ true → made ≤ updates * share)
-    → pick (within && leb (made_of p) share) (Promised.Of ((updates + pick (updating p) 1 0) * share - (made + made_of p % 128))) Promised.Damaged ≡ together (pick within (Promised.Of (updates * share - made)) Promised.Damaged) (owed_phase share p)
+    → pick (within && leb (made_of p) share) (Result.Ok ((updates + pick (updating p) 1 0) * share - (made + made_of p % 128))) damaged ≡ together (pick within (Result.Ok (updates * share - made)) damaged) (owed_phase share p)
 either_due share updates made true p l h = within_due share updates made p l (h refl)
 either_due share updates made false p l h = refl
 
@@ -82,19 +83,19 @@ counted_due share t p l h = either_due share t.updates t.made t.within p l h
 
 -- ---- one more worker promised for
 
-together_nothing : (x : Promised) → together x (Promised.Of 0) ≡ x
-together_nothing Promised.Damaged = refl
-together_nothing (Promised.Of a) = ap Promised.Of (omega arith)
+together_nothing : (x : Result ℕ Damage) → together x (Result.Ok 0) ≡ x
+together_nothing (Result.Err d) = refl
+together_nothing (Result.Ok a) = ap Result.Ok (omega arith)
 
-nothing_together : (x : Promised) → together (Promised.Of 0) x ≡ x
-nothing_together Promised.Damaged = refl
-nothing_together (Promised.Of a) = ap Promised.Of (omega arith)
+nothing_together : (x : Result ℕ Damage) → together (Result.Ok 0) x ≡ x
+nothing_together (Result.Err d) = refl
+nothing_together (Result.Ok a) = ap Result.Ok (omega arith)
 
-together_both : (x y z : Promised) → together (together x y) z ≡ together x (together y z)
-together_both Promised.Damaged y z = refl
-together_both (Promised.Of a) Promised.Damaged z = refl
-together_both (Promised.Of a) (Promised.Of b) Promised.Damaged = refl
-together_both (Promised.Of a) (Promised.Of b) (Promised.Of c) = ap Promised.Of (omega arith)
+together_both : (x y z : Result ℕ Damage) → together (together x y) z ≡ together x (together y z)
+together_both (Result.Err d) y z = refl
+together_both (Result.Ok a) (Result.Err d) z = refl
+together_both (Result.Ok a) (Result.Ok b) (Result.Err d) = refl
+together_both (Result.Ok a) (Result.Ok b) (Result.Ok c) = ap Result.Ok (omega arith)
 
 -- past the board's end stands an idle worker, which promises nothing: so no length is asked
 promised_next : (share w : ℕ) (board : List Worker) → together (promised_of share w board) (owed_phase share (get_or board w idle).phase) ≡ promised_of share (suc w) board
@@ -107,13 +108,20 @@ promised_next share (suc w) (r ∷ board) =
 -- ---- what the count leaves due is promised
 
 pub promised_by_tally : (share w : ℕ) (board : List Worker) → share ≤ most_share → still_due share (tally_of share w board) ≡ promised_of share w board
-promised_by_tally share zero board l = ap Promised.Of (omega arith)
+promised_by_tally share zero board l = ap Result.Ok (omega arith)
 promised_by_tally share (suc w) board l =
     let p = (get_or board w idle).phase in
-    counted_due share (tally_of share w board) p l (tally_within share w board) ∙ ap (λ (x : Promised). together x (owed_phase share p)) (promised_by_tally share w board l) ∙ promised_next share w board
+    counted_due share (tally_of share w board) p l (tally_within share w board) ∙ ap (λ (x : Result ℕ Damage). together x (owed_phase share p)) (promised_by_tally share w board l) ∙ promised_next share w board
 
 -- ---- the share of any number of cells is small
 
 pub share_small : (n : ℕ) → height_of n + 1 ≤ most_share
 unfolding height_of
 share_small n = omega (arith, trailing_le 64 n)
+
+-- ---- records at W and beyond are never read
+
+pub promised_first : (share w : ℕ) (board : List Worker) → promised_of share w (take w board) ≡ promised_of share w board
+promised_first share zero board = refl
+promised_first share (suc w) [] = refl
+promised_first share (suc w) (r ∷ board) = ap (together (owed_phase share r.phase)) (promised_first share w board)

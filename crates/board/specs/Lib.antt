@@ -1,4 +1,3 @@
--- The parts of the calls that only this crate defines, in the order in which they are to be read: what is promised, open.
--- Laws about them stand in proofs/, and there too that each contract leaves one answer.
+-- The part of the calls that only this crate defines: what is promised.
+-- Laws about it stand in proofs/, and there too that each contract leaves one answer.
 pub mod Promising
-pub mod Opening

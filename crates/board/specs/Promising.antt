@@ -1,10 +1,11 @@
 -- What is promised, reckoned from a count of the updates, and the bound under which it is reckoned.
 -- Assumes nothing.
-use Rattle.std.specs.Prelude.{true, ◌&&◌, List, ℕ, zero, suc, ◌+◌, ◌*◌, ◌-◌, ◌%◌, leb, get_or}
+use Rattle.std.specs.Prelude.{true, ◌&&◌, List, ℕ, zero, suc, ◌+◌, ◌*◌, ◌-◌, ◌%◌, leb, get_or, Result}
 use Rattle.trie.specs.declared.Phase.{Phase}
-use Rattle.trie.specs.declared.Promised.{Promised}
+use Rattle.trie.specs.declared.Damage.{Damage}
 use Rattle.trie.specs.declared.Worker.{Worker}
 use Rattle.trie.specs.Choice.{pick}
+use Rattle.trie.specs.Refusing.{damaged}
 use Rattle.trie.specs.Record.{idle}
 use Rattle.records.specs.Phases.{updating}
 use Rattle.board.specs.declared.promising.Tally.{Tally}
@@ -38,5 +39,5 @@ tally_of share zero board = none
 tally_of share (suc i) board = counted share (tally_of share i board) (get_or board i idle).phase
 
 -- what the updates counted may still make
-abbrev pub still_due : ℕ → Tally → Promised
-still_due share t = pick t.within (Promised.Of (t.updates * share - t.made)) Promised.Damaged
+abbrev pub still_due : ℕ → Tally → Result ℕ Damage
+still_due share t = pick t.within (Result.Ok (t.updates * share - t.made)) damaged

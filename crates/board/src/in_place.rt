@@ -4,18 +4,28 @@ ghost use Rattle.std.specs.Prelude.{◌≡◌};
 ghost use Rattle.trie.specs.Values.{progress_of};
 ghost use Rattle.trie.specs.Stepping.{Stepped, step_record_of};
 
-use crate::moving::{has_moved, progress_after, worker_after};
+use records::rested;
 use single::step_record;
-use trie::{Progress, Worker};
+use trie::{Next, Progress, Refusal, Worker};
 
-// Steps a record where it lies: refusals 1, 3, 6 and 9.
-pub fn step_in_place(n: u64, w: &mut Worker, nodes: &mut [u64], versions: &mut [u64]) -> Progress
+// Steps a record where it lies: refusals 1, 3, 6 and 9. After an answer the record is as open leaves it.
+pub fn step_in_place(
+    n: u64,
+    w: &mut Worker,
+    nodes: &mut [u64],
+    versions: &mut [u64],
+) -> Result<Progress, Refusal>
     ensures { ◌≡◌ {A = Stepped} (record { told = progress_of result; worker = w.new; nodes = nodes.new; versions = versions.new })
         (step_record_of n w.old nodes.old versions.old) }
 {
-    let moved = step_record(n, *w, nodes, versions);
-    if has_moved(moved) {
-        *w = worker_after(moved, *w);
+    match step_record(n, *w, nodes, versions)? {
+        Next::On(worker) => {
+            *w = worker;
+            Ok(Progress::On)
+        }
+        Next::Done(answer) => {
+            *w = rested();
+            Ok(Progress::Done(answer))
+        }
     }
-    progress_after(moved)
 }

@@ -3,7 +3,6 @@
 #![tactic(auto)]
 
 mod in_place;
-mod moving;
 mod opening;
 mod promising;
 mod starting;

@@ -1,42 +1,15 @@
-// A step advances one worker of the board: its record is picked, stepped by the step by value, and stored.
+// A step advances one worker of the board: its record is stepped where it lies.
 // No other record is read or written.
-ghost use Rattle.std.specs.Prelude.{◌≡◌, ◌<◌, length, get_or};
-ghost use Rattle.trie.specs.Record.{idle};
+ghost use Rattle.std.specs.Prelude.{◌≡◌};
 ghost use Rattle.trie.specs.Values.{Course, progress_of};
-ghost use Rattle.trie.specs.Stepping.{step_record_of};
-ghost use Rattle.trie.specs.Calls.{After, after, state, step_at, step_of};
+ghost use Rattle.trie.specs.Calls.{After, after, state, step_of};
 
-use crate::moving::{has_moved, progress_after, worker_after};
+use crate::in_place::step_in_place;
 use judging::judge;
-use single::step_record;
-use trie::{Progress, Worker};
-
-fn refuse(number: u64) -> Progress
-    ensures { result ≡ Progress.Refused number }
-{
-    Progress::Refused(number)
-}
-
-// The worker at a place of the board has its turn.
-fn turn(
-    n: u64,
-    at: usize,
-    nodes: &mut [u64],
-    versions: &mut [u64],
-    board: &mut [Worker],
-) -> Progress
-    requires { at < length board.old }
-    ensures { ◌≡◌ {A = After Course} (after (progress_of result) (state nodes.new versions.new board.new))
-        (step_at at (state nodes.old versions.old board.old) (step_record_of n (get_or board.old at idle) nodes.old versions.old)) }
-{
-    let moved = step_record(n, board[at], nodes, versions);
-    if has_moved(moved) {
-        board[at] = worker_after(moved, board[at]);
-    }
-    progress_after(moved)
-}
+use trie::{Progress, Refusal, Worker};
 
 // Advances worker i: refusals 1, 2, 3, 4, 6 and 9.
+#[tactic(auto, using(judging::proofs::JudgingLaws::seated))]
 pub fn step(
     n: u64,
     w: u64,
@@ -44,13 +17,10 @@ pub fn step(
     nodes: &mut [u64],
     versions: &mut [u64],
     board: &mut [Worker],
-) -> Progress
+) -> Result<Progress, Refusal>
     ensures { ◌≡◌ {A = After Course} (after (progress_of result) (state nodes.new versions.new board.new))
         (step_of n w i (state nodes.old versions.old board.old)) }
 {
-    let refusal = judge(n, w, i, nodes.len(), versions.len(), board.len());
-    if refusal != 0 {
-        return refuse(refusal);
-    }
-    turn(n, i as usize, nodes, versions, board)
+    judge(n, w, i, nodes.len(), versions.len(), board.len())?;
+    step_in_place(n, &mut board[i as usize], nodes, versions)
 }

@@ -1,3 +1,3 @@
--- The laws by which the proofs of one record's step end.
--- They say what a plan carried out comes to, phase by phase.
-pub mod Carries
+-- The law by which the proof of one record's step ends:
+-- its bounds are within those of the greatest tree.
+pub mod Heights

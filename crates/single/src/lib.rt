@@ -2,10 +2,10 @@
 // All writing to the tables is in `carry`, so a refused step visibly changes nothing.
 #![tactic(auto)]
 
-ghost use Rattle.std.specs.Prelude.{◌≡◌, ◌≤◌};
+ghost use Rattle.std.specs.Prelude.{◌≡◌, ◌≤◌, Result};
 ghost use Rattle.trie.specs.declared.Worker.{Worker};
 ghost use Rattle.trie.specs.Size.{most_cells, tallest};
-ghost use Rattle.trie.specs.Stepping.{moved_to, stepped_by, plan_of, carry_of, step_record_of};
+ghost use Rattle.trie.specs.Stepping.{stepped_by, plan_of, carry_of, step_record_of};
 
 use asking::{ask, find, rank, select};
 use climbing::refresh;
@@ -13,71 +13,71 @@ use marking::{read, swap};
 use records::is_busy;
 use sound::{bounds, is_used_sound};
 use tables::{is_allowed, is_roomy, put, store};
-use trie::{Bounds, Moved, Next, Phase, Plan, Worker};
+use trie::{Bounds, Next, Phase, Plan, Refusal, Worker};
 
-fn settle(next: Next) -> Moved
-    ensures { result ≡ moved_to next }
+#[tactic(auto, unfolding(trie::specs::Stepping::carry_of))]
+fn carry(plan: Plan, nodes: &mut [u64], versions: &mut [u64]) -> Next
+    ensures { (w : Worker) → stepped_by (Result.Ok result) w nodes.new versions.new
+        ≡ carry_of (Result.Ok plan) w nodes.old versions.old }
 {
-    match next {
-        Next::On(w) => Moved::On(w),
-        Next::Done(a) => Moved::Done(a),
-    }
-}
-
-fn carry(p: Plan, nodes: &mut [u64], versions: &mut [u64]) -> Moved
-    ensures { (w : Worker) → stepped_by result w nodes.new versions.new ≡ carry_of p w nodes.old versions.old }
-{
-    match p {
-        Plan::Damaged => Moved::Refused(9),
-        Plan::Keep(next) => settle(next),
+    match plan {
+        Plan::Keep(next) => next,
         Plan::Put(next, v, x, r) => {
             store(versions, v, r);
             put(nodes, x.0, v.0);
             put(nodes, 0, v.0);
-            settle(next)
+            next
         }
     }
 }
 
 // Each phase carries its plan out by itself: plans of all phases brought together first would be copied once more.
-fn turn(b: Bounds, phase: Phase, nodes: &mut [u64], versions: &mut [u64]) -> Moved
+#[tactic(auto, unfolding(trie::specs::Stepping::plan_of, trie::specs::Stepping::carry_of))]
+fn turn(b: Bounds, phase: Phase, nodes: &mut [u64], versions: &mut [u64]) -> Result<Next, Refusal>
     requires { (b.cells ≤ most_cells) × (b.height ≤ tallest) }
     ensures { (w : Worker) → stepped_by result w nodes.new versions.new
         ≡ carry_of (plan_of b phase nodes.old versions.old) w nodes.old versions.old }
 {
     if !is_used_sound(b) {
-        return Moved::Refused(9);
+        return Err(Refusal::Damaged);
     }
     match phase {
-        Phase::Idle => Moved::Refused(9),
-        Phase::Read(u) => carry(read(b, u, nodes, versions), nodes, versions),
-        Phase::Swap(u, v) => carry(swap(b, u, v, nodes, versions), nodes, versions),
-        Phase::Refresh(c, held) => carry(refresh(b, c, held, nodes, versions), nodes, versions),
-        Phase::Ask(q) => carry(ask(b, q, nodes, versions), nodes, versions),
-        Phase::Find(k, s) => carry(find(b, k, s, versions), nodes, versions),
+        Phase::Idle => Err(Refusal::Damaged),
+        Phase::Read(u) => Ok(carry(read(b, u, nodes, versions)?, nodes, versions)),
+        Phase::Swap(u, v) => Ok(carry(swap(b, u, v, nodes, versions)?, nodes, versions)),
+        Phase::Refresh(c, held) => {
+            Ok(carry(refresh(b, c, held, nodes, versions)?, nodes, versions))
+        }
+        Phase::Ask(q) => Ok(carry(ask(b, q, nodes, versions)?, nodes, versions)),
+        Phase::Find(k, s) => Ok(carry(find(b, k, s, versions)?, nodes, versions)),
         Phase::Rank(k, s, count, energy) => {
-            carry(rank(b, k, s, count, energy, versions), nodes, versions)
+            Ok(carry(rank(b, k, s, count, energy, versions)?, nodes, versions))
         }
         Phase::Select(j, s, x, passed) => {
-            carry(select(b, j, s, x, passed, versions), nodes, versions)
+            Ok(carry(select(b, j, s, x, passed, versions)?, nodes, versions))
         }
     }
 }
 
 // Steps one record on the lent tables: refusals 1, 3, 6 and 9.
-pub fn step_record(n: u64, w: Worker, nodes: &mut [u64], versions: &mut [u64]) -> Moved
+#[tactic(auto, unfolding(trie::specs::Stepping::step_record_of))]
+pub fn step_record(
+    n: u64,
+    w: Worker,
+    nodes: &mut [u64],
+    versions: &mut [u64],
+) -> Result<Next, Refusal>
     ensures { stepped_by result w nodes.new versions.new ≡ step_record_of n w nodes.old versions.old }
 {
     if !is_allowed(n) {
-        return Moved::Refused(1);
+        return Err(Refusal::Cells);
     }
     if !is_roomy(n, nodes, versions) {
-        return Moved::Refused(3);
+        return Err(Refusal::Tables);
     }
     if !is_busy(w) {
-        return Moved::Refused(6);
+        return Err(Refusal::Idle);
     }
-    let phase = w.phase;
     let b = bounds(n, nodes, versions);
-    turn(b, phase, nodes, versions)
+    turn(b, w.phase, nodes, versions)
 }

@@ -1,4 +1,5 @@
 -- Laws by which the calls that begin are proved:
--- how a start goes by its tests, and then how open fills the tables.
+-- whose bounds they are judged by, how open fills the tables, and what damage comes to.
 pub mod Grants
 pub mod Fills
+pub mod Damages

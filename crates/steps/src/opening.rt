@@ -1,22 +1,13 @@
 // Open fills the first words of both tables and leaves the rest untouched.
 // It reads no old contents, so that it can begin a new history on any tables that are long enough.
-ghost use Rattle.std.specs.Prelude.{◌≡◌, ◌+◌, ◌*◌, ◌-◌, ◌≤◌};
-ghost use Rattle.trie.specs.Size.{most_cells};
+ghost use Rattle.std.specs.Prelude.{◌≡◌, ◌<◌, ℕ};
 ghost use Rattle.trie.specs.Values.{accepted_of};
-ghost use Rattle.trie.specs.Opening.{Opened, first_node, first_word, open_nodes, open_versions, open_tables_of};
+ghost use Rattle.trie.specs.Opening.{Opened, filled, first_word, open_tables_of};
 
 use tables::{is_allowed, is_roomy, put};
-use trie::{Accepted, VERSION_WORDS};
-
-fn first_node(n: u64, x: u64) -> u64
-    requires { (1 ≤ n) × (n ≤ most_cells) }
-    ensures { result ≡ first_node n x }
-{
-    if x == 0 { 2 * n - 1 } else { x }
-}
+use trie::{Refusal, VERSION_WORDS};
 
 fn first_word(n: u64, i: u64) -> u64
-    requires { n ≤ most_cells }
     ensures { result ≡ first_word n i }
 {
     let x = i / VERSION_WORDS + 1;
@@ -27,41 +18,29 @@ fn first_word(n: u64, i: u64) -> u64
     if word < 2 { 2 * x + word } else { 0 }
 }
 
-fn fill_nodes(n: u64, nodes: &mut [u64])
-    requires { (1 ≤ n) × (n ≤ most_cells) }
-    ensures { nodes.new ≡ open_nodes n nodes.old }
+// Sets the words below `end` to their first values, and leaves the rest.
+fn fill<F: Fn(u64) -> u64>(table: &mut [u64], end: u64, first: F)
+    requires { (i : ℕ) → i < end → F.pre first i }
+    ensures { (f : ℕ → ℕ) → ((i x : ℕ) → i < end → F.post first i x → x ≡ f i) → table.new ≡ filled f end table.old }
 {
-    let end = 2 * n;
-    let mut i = 0;
-    while i < end {
-        put(nodes, i, first_node(n, i));
-        i += 1;
-    }
-}
-
-fn fill_versions(n: u64, versions: &mut [u64])
-    requires { (1 ≤ n) × (n ≤ most_cells) }
-    ensures { versions.new ≡ open_versions n versions.old }
-{
-    let end = VERSION_WORDS * (2 * n - 1);
-    let mut i = 0;
-    while i < end {
-        put(versions, i, first_word(n, i));
-        i += 1;
+    for i in 0..end {
+        put(table, i, first(i));
     }
 }
 
 // Opens the tables for n cells: refusals 1 and 3.
-pub fn open_tables(n: u64, nodes: &mut [u64], versions: &mut [u64]) -> Accepted
+#[tactic(auto, using(crate::proofs::Grants::few), unfolding(trie::specs::Opening::open_tables_of))]
+pub fn open_tables(n: u64, nodes: &mut [u64], versions: &mut [u64]) -> Result<(), Refusal>
     ensures { ◌≡◌ {A = Opened} (record { told = accepted_of result; nodes = nodes.new; versions = versions.new }) (open_tables_of n nodes.old versions.old) }
 {
     if !is_allowed(n) {
-        return Accepted::Refused(1);
+        return Err(Refusal::Cells);
     }
     if !is_roomy(n, nodes, versions) {
-        return Accepted::Refused(3);
+        return Err(Refusal::Tables);
     }
-    fill_nodes(n, nodes);
-    fill_versions(n, versions);
-    Accepted::Ok
+    let used = 2 * n - 1;
+    fill(nodes, used + 1, |x| if x == 0 { used } else { x });
+    fill(versions, VERSION_WORDS * used, |i| first_word(n, i));
+    Ok(())
 }

@@ -1,26 +1,24 @@
--- `single::step_record` meets its contract.
+-- `single::step_record` meets its contract: the turn goes by the bounds of n cells, which are a tree's.
 -- Assumes nothing.
-use Rattle.single.proofs.Carries.{bounds_fit, step_1, step_3, step_6, step_turns}
-use Rattle.std.proofs.Common.{ap}
-use Rattle.std.specs.Prelude.{not}
+use Rattle.std.proofs.Common.{◌∙◌, sym}
+use Rattle.trie.specs.Stepping.{step_record_of}
+use Rattle.steps.proofs.Grants.{bounds_are}
+use Rattle.single.proofs.Heights.{bounds_fit}
 use Rattle.single.proofs.step_record.Goals as goal
-
-pub returns-then-not-is_allowed : goal.returns-then-not-is_allowed
-returns-then-not-is_allowed c = step_1 _ _ _ _ _ c.is_allowed.ensures (ap not c.if-not-is_allowed.true)
-
-pub returns-then-not-is_roomy : goal.returns-then-not-is_roomy
-returns-then-not-is_roomy c = step_3 _ _ _ _ _ c.is_allowed.ensures (ap not c.if-not-is_allowed.false) _ c.is_roomy.ensures (ap not c.if-not-is_roomy.true)
-
-pub returns-then-not-is_busy : goal.returns-then-not-is_busy
-returns-then-not-is_busy c =
-    step_6 _ _ _ _ _ c.is_allowed.ensures (ap not c.if-not-is_allowed.false) _ c.is_roomy.ensures (ap not c.if-not-is_roomy.false) _ c.is_busy.ensures
-    (ap not c.if-not-is_busy.true)
 
 pub turn-requires : goal.turn-requires
 turn-requires c =
-    bounds_fit _ _ _ _ _ c.bounds-b.ensures c.is_allowed.ensures (ap not c.if-not-is_allowed.false)
+    let allowed = sym c.is_allowed.ensures ∙ c.if-not-is_allowed.false in
+    rw (c.bounds-b.ensures ∙ bounds_are _ _ _ allowed) (bounds_fit c.args.n _ _ allowed)
 
 pub returns : goal.returns
+unfolding step_record_of
 returns c =
-    step_turns _ _ _ _ _ c.is_allowed.ensures (ap not c.if-not-is_allowed.false) _ c.is_roomy.ensures (ap not c.if-not-is_roomy.false) _ c.is_busy.ensures _ c.turn.result _ _ (ap not c.if-not-is_busy.false) c.bounds-b.ensures
-    c.turn.ensures
+    let allowed = sym c.is_allowed.ensures ∙ c.if-not-is_allowed.false in
+    simp (
+      allowed,
+      sym c.is_roomy.ensures ∙ c.if-not-is_roomy.false,
+      sym c.is_busy.ensures ∙ c.if-not-is_busy.false,
+      ← (c.bounds-b.ensures ∙ bounds_are _ _ _ allowed),
+    )
+    (c.turn.ensures c.args.w)
