@@ -12,4 +12,3 @@ pub mod Decided
 -- how a call comes to what it comes to, and how a thing goes one further, as a loop has it.
 mod Comes
 mod Copied
-mod Places

@@ -2,15 +2,15 @@
 -- Assumes nothing.
 use Rattle.std.proofs.Math.Path.{◌≡◌, refl}
 use Rattle.std.proofs.Common.{sym, ap, subst, ◌∙◌, drop-drop}
-use Rattle.std.specs.Prelude.{Bool, true, false, ◌&&◌, List, leb, take, drop}
+use Rattle.std.specs.Prelude.{Bool, true, false, ◌&&◌, List, leb, take, drop, Option, None, Some}
 use Prim.Native.Nat.{ℕ, zero, suc, ◌+◌, ◌*◌, ◌-◌, ◌≤◌, ◌<◌}
 use native.Mathlib.Omega.{arith}
 use Rattle.trie.specs.declared.Phase.{Phase}
 use Rattle.trie.specs.declared.Promised.{Promised}
+use Rattle.trie.specs.declared.Worker.{Worker}
 use Rattle.trie.specs.Choice.{pick}
 use Rattle.trie.specs.Size.{most_workers}
 use Rattle.trie.specs.Record.{owed_phase, together, promised_of}
-use Rattle.kitesonnet.specs.declared.reading.Record.{Record}
 use Rattle.kitesonnet.specs.Reading.{record_of}
 use Rattle.kitesonnet.specs.Seats.{record_words, record_at, is_record, readable, workers_in}
 use Rattle.kitesonnet.specs.Promising.{owed_in, promised_in, most_share, Most, Small}
@@ -22,12 +22,12 @@ damaged_last Promised.Damaged = refl
 damaged_last (Promised.Of a) = refl
 
 module _ (share : ℕ) where
-  sum_by : (r : Record) (b : Bool) (w k : ℕ) (words : List ℕ) → r ≡ record_of (take record_words words) → is_record r && b ≡ true
+  sum_by : (r : Option Worker) (b : Bool) (w k : ℕ) (words : List ℕ) → r ≡ record_of (take record_words words) → is_record r && b ≡ true
       → (b ≡ true → promised_in share w (drop record_words words) ≡ promised_of share w (workers_in k (drop record_words words)))
       → promised_in share (suc w) words ≡ promised_of share (suc w) (workers_in (suc k) words)
   unfolding promised_in workers_in
-  sum_by Record.Not b w k words e t h = absurd (let z : ◌≡◌ {A = ℕ} 0 1 = cc in omega arith)
-  sum_by (Record.Is r) b w k words e t h = rw (← e) (ap (together (owed_phase share r.phase)) (h t))
+  sum_by None b w k words e t h = absurd (let z : ◌≡◌ {A = ℕ} 0 1 = cc in omega arith)
+  sum_by (Some r) b w k words e t h = rw (← e) (ap (together (owed_phase share r.phase)) (h t))
 
   pub promised_is : (w k : ℕ) (words : List ℕ) → w ≤ k → readable w words ≡ true → promised_in share w words ≡ promised_of share w (workers_in k words)
   unfolding readable promised_in
@@ -38,10 +38,10 @@ module _ (share : ℕ) where
 
   -- ---- else it is damage
 
-  damage_by : (r : Record) (b : Bool) (w : ℕ) (words : List ℕ) → is_record r && b ≡ false → (b ≡ false → promised_in share w words ≡ Promised.Damaged)
+  damage_by : (r : Option Worker) (b : Bool) (w : ℕ) (words : List ℕ) → is_record r && b ≡ false → (b ≡ false → promised_in share w words ≡ Promised.Damaged)
       → together (owed_in share r) (promised_in share w words) ≡ Promised.Damaged
-  damage_by Record.Not b w words t h = refl
-  damage_by (Record.Is r) b w words t h = ap (together (owed_phase share r.phase)) (h t) ∙ damaged_last (owed_phase share r.phase)
+  damage_by None b w words t h = refl
+  damage_by (Some r) b w words t h = ap (together (owed_phase share r.phase)) (h t) ∙ damaged_last (owed_phase share r.phase)
 
   pub promised_damaged : (w : ℕ) (words : List ℕ) → readable w words ≡ false → promised_in share w words ≡ Promised.Damaged
   unfolding readable promised_in
@@ -66,9 +66,9 @@ module _ (share : ℕ) where
   owed_most (Phase.Rank k s c e) = omega arith
   owed_most (Phase.Select j s x c) = omega arith
 
-  pub owed_in_most : (r : Record) → Most share (owed_in share r)
-  owed_in_most Record.Not = omega arith
-  owed_in_most (Record.Is r) = owed_most r.phase
+  pub owed_in_most : (r : Option Worker) → Most share (owed_in share r)
+  owed_in_most None = omega arith
+  owed_in_most (Some r) = owed_most r.phase
 
   together_most : (p q : Promised) (k : ℕ) → Most share p → Most k q → Most (share + k) (together p q)
   together_most Promised.Damaged q k h l = omega arith
@@ -98,7 +98,7 @@ unfolding shares
 shares_most share l zero = omega arith
 shares_most share l (suc w) = omega (arith, l, shares_most share l w)
 
-pub owed_small : (share : ℕ) (r : Record) (p : Promised) → p ≡ owed_in share r → share ≤ most_share → Small p
+pub owed_small : (share : ℕ) (r : Option Worker) (p : Promised) → p ≡ owed_in share r → share ≤ most_share → Small p
 owed_small share r p e l = subst Small (sym e) (most_up (owed_in share r) share (most_workers * most_share) (omega (arith, l)) (owed_in_most share r))
 
 pub promised_small : (share w : ℕ) (words : List ℕ) (p : Promised) → p ≡ promised_in share w words → share ≤ most_share → w ≤ most_workers → Small p

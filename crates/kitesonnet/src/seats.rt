@@ -5,7 +5,7 @@ ghost use Rattle.std.proofs.Math.Seq.{paste};
 ghost use Rattle.kitesonnet.specs.Seats.{record_words, record_at, worker_of, seat_put};
 
 use crate::RECORD_WORDS;
-use crate::reading::{Record, record_of};
+use crate::reading::record_of;
 use crate::writing::words_of;
 use trie::{Phase, Worker};
 
@@ -32,20 +32,20 @@ fn words_at(board: &[u64], at: usize) -> [u64; RECORD_WORDS]
 }
 
 // The record of worker i, or that its words are none.
-pub(crate) fn record_at(board: &[u64], i: usize) -> Record
+pub(crate) fn record_at(board: &[u64], i: usize) -> Option<Worker>
     requires { record_words * i + record_words ≤ length board.now }
     ensures { result ≡ record_at board.now i }
 {
-    record_of(words_at(board, RECORD_WORDS * i))
+    record_of(&words_at(board, RECORD_WORDS * i))
 }
 
 // The worker that a record says. Words that are no record stand for an idle one, so that 5 is not given for them: 9 is.
-pub(crate) fn worker_of(says: Record) -> Worker
+pub(crate) fn worker_of(says: Option<Worker>) -> Worker
     ensures { result ≡ worker_of says }
 {
     match says {
-        Record::Not => Worker { phase: Phase::Idle },
-        Record::Is(w) => w,
+        None => Worker { phase: Phase::Idle },
+        Some(w) => w,
     }
 }
 

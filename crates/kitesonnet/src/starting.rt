@@ -8,7 +8,7 @@ ghost use Rattle.kitesonnet.specs.Calls.{lent, back, kite_start_of};
 ghost use Rattle.kitesonnet.specs.OneRecord.{begins, begun_in, starts_in};
 
 use crate::RECORD_WORDS;
-use crate::operations::{MaybeOperation, operation_of};
+use crate::operations::operation_of;
 use crate::promising::promised_in;
 use crate::seats::{put_record, record_at, worker_of};
 use judging::judge;
@@ -63,7 +63,7 @@ pub extern "C" fn kite_start(
     ensures { back result (lent nodes.now versions.now board.new)
         ≡ kite_start_of n w i kind first second (lent nodes.now versions.now board.old) }
 {
-    let MaybeOperation::Is(o) = operation_of(kind, first, second) else {
+    let Some(o) = operation_of(kind, first, second) else {
         return 10;
     };
     let refusal = judge(
