@@ -1,8 +1,9 @@
 -- Twelve words that say a record are that record's own words: a word that has no meaning is 0, and nothing is said in two ways.
 -- Each test that a reading makes leaves one number for the word that it tests. Assumes nothing.
 use Rattle.std.proofs.Math.Path.{◌≡◌, refl, sym}
-use Rattle.std.proofs.Common.{ap, ◌∙◌, arith, eqb-true, drop_of_length-le, drop-cons}
-use Rattle.std.specs.Prelude.{Bool, true, false, ◌&&◌, List, [], ◌∷◌, ℕ, eqb, leb, length, get_or, replicate, Option, None, Some}
+use Rattle.std.proofs.Common.{ap, ◌∙◌, arith, eqb-true, leb-true, drop_of_length-le, drop-cons}
+use Rattle.std.specs.Prelude.{Bool, true, false, ◌&&◌, List, [], ◌∷◌, ℕ, ◌≤◌, eqb, leb, length, get_or, replicate, Option, None, Some}
+use Rattle.std.proofs.lemmas.Bool.{eqb-false}
 use Rattle.std.proofs.lemmas.Option.{none-some, same_Some}
 use Rattle.trie.specs.declared.Climb.{Climb}
 use Rattle.trie.specs.declared.Held.{Held}
@@ -27,12 +28,15 @@ zeros (x ∷ xs) e = ap (λ (y : ℕ). y ∷ xs) (eqb-true x 0 (and_first (eqb x
 
 flag_only : (x : ℕ) (b : Bool) → flag_of x ≡ Some b → bit_of b ≡ x
 unfolding flag_of
-flag_only x b e = flag_by (eqb x 0) (eqb x 1) refl refl e
+flag_only x b e = flag_by (leb x 1) refl e
   where
-    flag_by : (none one : Bool) → eqb x 0 ≡ none → eqb x 1 ≡ one → pick none (Some false) (pick one (Some true) None) ≡ Some b → bit_of b ≡ x
-    flag_by true one n o e = sym (ap bit_of (same_Some false b e)) ∙ sym (eqb-true x 0 n)
-    flag_by false true n o e = sym (ap bit_of (same_Some true b e)) ∙ sym (eqb-true x 1 o)
-    flag_by false false n o e = absurd (none-some b e)
+    one_by : (c : Bool) → eqb x 1 ≡ c → x ≤ 1 → bit_of c ≡ x
+    one_by true e l = sym (eqb-true x 1 e)
+    one_by false e l = omega (arith, eqb-false x 1 e, l)
+
+    flag_by : (c : Bool) → leb x 1 ≡ c → pick c (Some (eqb x 1)) None ≡ Some b → bit_of b ≡ x
+    flag_by true l e = one_by b (same_Some (eqb x 1) b e) (leb-true x 1 l)
+    flag_by false l e = absurd (none-some b e)
 
 -- ---- an operation
 

@@ -1,6 +1,6 @@
 -- The record that twelve words say, or that they say none: each that has no meaning in its phase has to be 0.
 -- Assumes nothing.
-use Rattle.std.specs.Prelude.{Bool, true, false, ◌&&◌, List, ℕ, eqb, leb, get_or, drop, Option, None, Some, option_and_then}
+use Rattle.std.specs.Prelude.{Bool, ◌&&◌, List, ℕ, eqb, leb, get_or, drop, Option, None, Some, option_and_then}
 use Rattle.std.specs.List.{list_all}
 use Rattle.trie.specs.declared.Update.{Update}
 use Rattle.trie.specs.declared.Held.{Held}
@@ -40,7 +40,7 @@ refresh_of read v l r =
 
 -- 0 and 1 are no and yes
 unfoldable pub flag_of : ℕ → Option Bool
-flag_of word = pick (eqb word 0) (Some false) (pick (eqb word 1) (Some true) None)
+flag_of word = pick (leb word 1) (Some (eqb word 1)) None
 
 unfoldable pub climb_of : Update → List ℕ → Option Worker
 climb_of u f = do
