@@ -1,6 +1,6 @@
 -- Any list of calls in words comes to what the same calls on the records come to, from an accepted open on.
 -- So what is shown of histories holds for a program that links the library. Assumes nothing.
-use Rattle.std.specs.Prelude.{◌≡◌, Bool, List, [], ◌∷◌, ℕ, ◌≤◌, ◌<◌, eqb, leb, length, get_or, Option, None, Some}
+use Rattle.std.specs.Prelude.{is_some, ◌≡◌, Bool, List, [], ◌∷◌, ℕ, ◌≤◌, ◌<◌, eqb, leb, length, get_or, Option, None, Some}
 use Rattle.std.proofs.Math.Path.{refl, ap, subst}
 use Rattle.std.proofs.Common.{sym, ◌∙◌, arith}
 use Rattle.std.proofs.Math.Bool.{true, false}
@@ -17,7 +17,7 @@ use Rattle.trie.specs.Calls.{State, state, After, after, check, manned, open_of,
 use Rattle.judging.specs.Judging.{manned_by}
 use Rattle.judging.proofs.JudgingLaws.{manned_by_lem}
 use Rattle.kitesonnet.specs.Operations.{operation_of}
-use Rattle.kitesonnet.specs.Seats.{seats_of, record_at, said, is_record, readable, seat_put}
+use Rattle.kitesonnet.specs.Seats.{seats_of, record_at, said, readable, seat_put}
 use Rattle.kitesonnet.proofs.SeatLaws.{said_length, seats_rest}
 use Rattle.kitesonnet.specs.Answers.{answer_words}
 use Rattle.kitesonnet.specs.Calls.{Lent, lent, state_of, returned, writes_first, writes_at, kite_open_of, start_said, start_given, kite_start_of, step_said, step_roomy, kite_step_of}
@@ -88,7 +88,7 @@ module _ (n w : ℕ) (answer nodes versions board : List ℕ) (long : leb answer
     )
 
     -- the worker's own words are a record, as it is one of the board's
-    step_of_lem : (x : Option Worker) → record_at board i ≡ x → is_record x ≡ true → state_of (kite_step_of n w i s answer).lent ≡ (step_of n w i (state_of s)).state
+    step_of_lem : (x : Option Worker) → record_at board i ≡ x → is_some x ≡ true → state_of (kite_step_of n w i s answer).lent ≡ (step_of n w i (state_of s)).state
     step_of_lem None e g = absurd (let z : ◌≡◌ {A = ℕ} 0 1 = cc in omega arith)
     step_of_lem (Some r) e g = step_is nodes versions board n w i r answer e long
 

@@ -1,6 +1,6 @@
 -- Each call in words is document 01's call on the state that the words say: the words after it say the records after it, and it tells the same.
 -- Assumes nothing.
-use Rattle.std.specs.Prelude.{◌≡◌, ◌≢◌, Bool, true, false, ◌&&◌, eqb, ltb, leb, length, get_or, take, drop, Option, None, Some}
+use Rattle.std.specs.Prelude.{is_some, ◌≡◌, ◌≢◌, Bool, true, false, ◌&&◌, eqb, ltb, leb, length, get_or, take, drop, Option, None, Some}
 use Rattle.std.proofs.Math.Path.{refl, ap}
 use Rattle.std.proofs.Common.{sym, subst, ◌∙◌, arith, ltb-true, ltb-false, eqb-true, take-append-drop, length-drop, length-set, drop-drop, take_at, drop_at, length-take-le, ext_get_or, get_or-set_same, get_or-set_other}
 use mathlib.Core.List.{List, ◌++◌, append_assoc}
@@ -32,7 +32,7 @@ use Rattle.kitesonnet.specs.Operations.{operation_of}
 use Rattle.kitesonnet.specs.Reading.{record_of}
 use Rattle.kitesonnet.specs.Writing.{words_of}
 use Rattle.kitesonnet.proofs.RecordLaws.{record_back}
-use Rattle.kitesonnet.specs.Seats.{record_words, seats_of, record_at, worker_of, said, is_record, readable, seat_put}
+use Rattle.kitesonnet.specs.Seats.{record_words, seats_of, record_at, worker_of, said, readable, seat_put}
 use Rattle.kitesonnet.specs.Seats.{seats_rested}
 use Rattle.kitesonnet.proofs.SeatLaws.{said_length, at_next, said_at, seats_rest}
 use Rattle.kitesonnet.specs.Answers.{answer_words}
@@ -132,29 +132,29 @@ module _ (board : List ℕ) (i : ℕ) (w : Worker) (h : i < seats_of board) wher
 
 -- ---- words that are records stay records
 
-pub readable_one : (w : ℕ) (words : List ℕ) (j : ℕ) → readable w words ≡ true → j < w → is_record (record_at words j) ≡ true
+pub readable_one : (w : ℕ) (words : List ℕ) (j : ℕ) → readable w words ≡ true → j < w → is_some (record_at words j) ≡ true
 unfolding readable
 readable_one zero words j e l = absurd (omega arith)
-readable_one (suc w) words zero e l = and_first (is_record (record_of (take record_words words))) (readable w (drop record_words words)) e
-readable_one (suc w) words (suc j) e l = sym (ap is_record (at_next words j)) ∙ readable_one w (drop record_words words) j (and_second (is_record (record_of (take record_words words))) (readable w (drop record_words words)) e) (omega arith)
+readable_one (suc w) words zero e l = and_first (is_some (record_of (take record_words words))) (readable w (drop record_words words)) e
+readable_one (suc w) words (suc j) e l = sym (ap is_some (at_next words j)) ∙ readable_one w (drop record_words words) j (and_second (is_some (record_of (take record_words words))) (readable w (drop record_words words)) e) (omega arith)
 
-readable_all : (w : ℕ) (words : List ℕ) → ((j : ℕ) → j < w → is_record (record_at words j) ≡ true) → readable w words ≡ true
+readable_all : (w : ℕ) (words : List ℕ) → ((j : ℕ) → j < w → is_some (record_at words j) ≡ true) → readable w words ≡ true
 unfolding readable
 readable_all zero words h = refl
 readable_all (suc w) words h =
-    ap (λ (b : Bool). b && readable w (drop record_words words)) (h 0 (omega arith)) ∙ readable_all w (drop record_words words) (λ j l. ap is_record (at_next words j) ∙ h (suc j) (omega arith))
+    ap (λ (b : Bool). b && readable w (drop record_words words)) (h 0 (omega arith)) ∙ readable_all w (drop record_words words) (λ j l. ap is_some (at_next words j) ∙ h (suc j) (omega arith))
 
 module _ (board : List ℕ) (i : ℕ) (v : Worker) (h : i < seats_of board) where
-  put_by : (j : ℕ) (b : Bool) → eqb j i ≡ b → (j ≢ i → is_record (record_at board j) ≡ true) → is_record (record_at (seat_put board i v) j) ≡ true
-  put_by j true e k = ap (λ (x : ℕ). is_record (record_at (seat_put board i v) x)) (eqb-true j i e) ∙ ap is_record (put_own board i v h)
-  put_by j false e k = ap is_record (put_other board i v h j (eqb-false j i e)) ∙ k (eqb-false j i e)
+  put_by : (j : ℕ) (b : Bool) → eqb j i ≡ b → (j ≢ i → is_some (record_at board j) ≡ true) → is_some (record_at (seat_put board i v) j) ≡ true
+  put_by j true e k = ap (λ (x : ℕ). is_some (record_at (seat_put board i v) x)) (eqb-true j i e) ∙ ap is_some (put_own board i v h)
+  put_by j false e k = ap is_some (put_other board i v h j (eqb-false j i e)) ∙ k (eqb-false j i e)
 
   -- one record written
   pub readable_put : (w : ℕ) → readable w board ≡ true → readable w (seat_put board i v) ≡ true
   readable_put w e = readable_all w (seat_put board i v) (λ j l. put_by j (eqb j i) refl (λ d. readable_one w board j e l))
 
 -- the first workers at rest
-rested_one : (k : ℕ) (board : List ℕ) → k ≤ seats_of board → (seats_of (seats_rested k board) ≡ seats_of board) × ((j : ℕ) → j < k → is_record (record_at (seats_rested k board) j) ≡ true)
+rested_one : (k : ℕ) (board : List ℕ) → k ≤ seats_of board → (seats_of (seats_rested k board) ≡ seats_of board) × ((j : ℕ) → j < k → is_some (record_at (seats_rested k board) j) ≡ true)
 unfolding seats_rested
 rested_one zero board l = (refl, λ j m. absurd (omega arith))
 rested_one (suc k) board l =

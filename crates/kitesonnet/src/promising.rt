@@ -62,16 +62,13 @@ fn join(one: Promised, others: Promised) -> Promised
     Promised::Of(a + b)
 }
 
-// From the last worker to the first, so that what is summed is always that of the words from a place on.
 pub(crate) fn promised_in(share: u64, w: usize, board: &[u64]) -> Promised
     requires { (share ≤ most_share) × (w ≤ most_workers) × (record_words * w ≤ length board.now) }
     ensures { result ≡ promised_in share w board.now }
 {
     let mut sum = Promised::Of(0);
-    let mut i = w;
-    while 0 < i {
-        i -= 1;
-        sum = join(owed_in(share, record_at(board, i)), sum);
+    for i in 0..w {
+        sum = join(sum, owed_in(share, record_at(board, i)));
     }
     sum
 }

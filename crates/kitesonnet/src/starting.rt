@@ -10,8 +10,9 @@ ghost use Rattle.kitesonnet.specs.OneRecord.{begins, begun_in, starts_in};
 use crate::RECORD_WORDS;
 use crate::operations::operation_of;
 use crate::promising::promised_in;
-use crate::seats::{put_record, record_at, worker_of};
+use crate::seats::{put_record, record_at};
 use judging::judge;
+use records::rested;
 use trie::{Accepted, Begun, Operation};
 
 // An accepted start is recorded; a refused one writes nothing.
@@ -42,7 +43,8 @@ fn start_seated(
     ensures { begins result board.new ≡ starts_in n w i o nodes.now versions.now board.old }
 {
     let sum = promised_in(tables::height(n) + 1, w, board);
-    let own = worker_of(record_at(board, i));
+    // Words that are no record stand for an idle one, so that 5 is not given for them: 9 is.
+    let own = record_at(board, i).unwrap_or(rested());
     let begun = steps::start_record(n, o, sum, own, nodes, versions);
     record_begun(begun, i, board)
 }
