@@ -122,16 +122,16 @@ fn query_in(words: &[u64; RECORD_WORDS]) -> Option<Worker>
 }
 
 #[tactic(auto, unfolding(crate::specs::Reading::record_of))]
-pub(crate) fn record_of(words: &[u64; RECORD_WORDS]) -> Option<Worker>
-    ensures { result ≡ record_of words.now }
+pub(crate) fn record_of(words: [u64; RECORD_WORDS]) -> Option<Worker>
+    ensures { result ≡ record_of words }
 {
     match words[0] {
-        IDLE_PHASE => is_bare(words, 1).then_some(rested()),
+        IDLE_PHASE => is_bare(&words, 1).then_some(rested()),
         READ_PHASE | SWAP_PHASE | CLIMB_PHASE => update_in(
             update_of(words[1], words[2], words[3])?,
-            words,
+            &words,
         ),
-        ASK_PHASE => ask_in(query_of(words[1], words[2])?, words),
-        _ => query_in(words),
+        ASK_PHASE => ask_in(query_of(words[1], words[2])?, &words),
+        _ => query_in(&words),
     }
 }
