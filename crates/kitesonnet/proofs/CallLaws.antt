@@ -1,6 +1,6 @@
 -- From what the code does with one record to the calls in words: the judging by lengths, the record in its seat, and words that are no record.
 -- Assumes nothing.
-use Rattle.std.specs.Prelude.{◌≡◌, refl, Bool, not, ◌&&◌, List, ℕ, ◌+◌, ◌≤◌, ◌<◌, eqb, leb, length, get_or, set}
+use Rattle.std.specs.Prelude.{◌≡◌, refl, Bool, not, ◌&&◌, List, ℕ, ◌+◌, ◌≤◌, ◌<◌, eqb, leb, length, get_or, set, Option, None, Some}
 use Rattle.std.proofs.Math.Path.{sym, ap}
 use Rattle.std.proofs.Common.{◌∙◌, arith, leb-true, get_or-set_same}
 use Rattle.std.proofs.Math.Bool.{true, false}
@@ -24,8 +24,6 @@ use Rattle.trie.proofs.StepLaws.{gives_not, step_refused}
 use Rattle.trie.specs.Calls.{state, After, after, check, check_call, manned, open_of, start_of, step_at, step_of}
 use Rattle.judging.specs.Judging.{manned_by, judge_of}
 use Rattle.judging.proofs.JudgingLaws.{manned_by_lem, seated, call_refused, call_seated, start_seated, step_seated}
-use Rattle.kitesonnet.specs.declared.operations.MaybeOperation.{MaybeOperation}
-use Rattle.kitesonnet.specs.declared.reading.Record.{Record}
 use Rattle.kitesonnet.specs.Seats.{seats_of, record_at, worker_of, said, readable, seat_put}
 use Rattle.kitesonnet.specs.Calls.{Lent, lent, state_of, Back, back, returned, writes_first, writes_at, kite_open_of, start_damaged, start_said, start_given, Answered, answered, answer_after, step_said, step_told}
 use Rattle.kitesonnet.specs.OneRecord.{Begins, begun_by, begun_in, Moves, moves_in, stepped_in, steps_in}
@@ -48,7 +46,7 @@ module _ (n i : ℕ) (w : Worker) (nodes versions nodes' versions' board answer 
   told_by (Moved.On v) e = refl
   told_by (Moved.Done a) e = refl
 
-  pub moves_are : (m : Moved) → stepped_by m w nodes' versions' ≡ step_record_of n w nodes versions → moved (moves_in i board answer m) ≡ steps_in n i (Record.Is w) (lent nodes versions board) answer
+  pub moves_are : (m : Moved) → stepped_by m w nodes' versions' ≡ step_record_of n w nodes versions → moved (moves_in i board answer m) ≡ steps_in n i (Some w) (lent nodes versions board) answer
   moves_are m e = told_by m e ∙ ap (stepped_in i (lent nodes versions board) answer) e
 
 -- ---- the judging by lengths
@@ -125,7 +123,7 @@ module _ (n w i : ℕ) (nodes versions board : List ℕ) where
     begun_by_lem false g e = start_lost e g
 
     -- a start that comes to the worker's record
-    pub start_sits : eqb judged_in 0 ≡ true → starts_by (promised_in (height_of n + 1) w board) (worker_of (record_at board i)) ≡ start_given (MaybeOperation.Is o) n w i s
+    pub start_sits : eqb judged_in 0 ≡ true → starts_by (promised_in (height_of n + 1) w board) (worker_of (record_at board i)) ≡ start_given (Some o) n w i s
     start_sits e = begun_by_lem (readable w board) refl e
 
     refused_by : (b : Bool) → eqb judged_in 0 ≡ false → back judged_in s ≡ writes_at i s (start_said b n w i o (state_of s))
@@ -134,7 +132,7 @@ module _ (n w i : ℕ) (nodes versions board : List ℕ) where
     refused_by false e = ap (writes_at i s) (sym (call_judged _ e))
 
     -- a start that is refused before
-    pub start_stays : eqb judged_in 0 ≡ false → back judged_in s ≡ start_given (MaybeOperation.Is o) n w i s
+    pub start_stays : eqb judged_in 0 ≡ false → back judged_in s ≡ start_given (Some o) n w i s
     start_stays e = refused_by (readable w board) e
 
   -- ---- step
@@ -148,9 +146,9 @@ module _ (n w i : ℕ) (nodes versions board : List ℕ) where
     lost_by true false = refl
     lost_by false r = refl
 
-    steps_by : (r : Record) → record_at board i ≡ r → eqb judged_in 0 ≡ true → steps_in n i r s answer ≡ step_told i s answer (step_said r n w i (state_of s))
-    steps_by Record.Not g e = lost_by (allowed n) (roomy n nodes versions) ∙ ap (step_told i s answer) (sym (call_seated n w i nodes versions (said board) (after (refused 9) (state_of s)) (judged_by true e)))
-    steps_by (Record.Is own) g e =
+    steps_by : (r : Option Worker) → record_at board i ≡ r → eqb judged_in 0 ≡ true → steps_in n i r s answer ≡ step_told i s answer (step_said r n w i (state_of s))
+    steps_by None g e = lost_by (allowed n) (roomy n nodes versions) ∙ ap (step_told i s answer) (sym (call_seated n w i nodes versions (said board) (after (refused 9) (state_of s)) (judged_by true e)))
+    steps_by (Some own) g e =
         let h = sits e in
         let at : i < seats_of board = omega (arith, h.below, h.seats) in
         ap (λ (v : Worker). stepped_in i s answer (step_record_of n v nodes versions)) (sym (said_at board i at ∙ ap worker_of g)) ∙ step_put (step_record_of n (get_or (said board) i idle) nodes versions) at
@@ -160,10 +158,10 @@ module _ (n w i : ℕ) (nodes versions board : List ℕ) where
     pub step_sits : eqb judged_in 0 ≡ true → steps_in n i (record_at board i) s answer ≡ step_told i s answer (step_said (record_at board i) n w i (state_of s))
     step_sits e = steps_by (record_at board i) refl e
 
-    stays_by : (r : Record) → eqb judged_in 0 ≡ false → answered (back judged_in s) answer ≡ step_told i s answer (step_said r n w i (state_of s))
+    stays_by : (r : Option Worker) → eqb judged_in 0 ≡ false → answered (back judged_in s) answer ≡ step_told i s answer (step_said r n w i (state_of s))
     unfolding step_of
-    stays_by Record.Not e = ap (step_told i s answer) (sym (call_judged _ e))
-    stays_by (Record.Is own) e = ap (step_told i s answer) (sym (call_judged _ e))
+    stays_by None e = ap (step_told i s answer) (sym (call_judged _ e))
+    stays_by (Some own) e = ap (step_told i s answer) (sym (call_judged _ e))
 
     -- a step that is refused before
     pub step_stays : eqb judged_in 0 ≡ false → answered (back judged_in s) answer ≡ step_told i s answer (step_said (record_at board i) n w i (state_of s))

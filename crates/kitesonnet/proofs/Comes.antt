@@ -1,5 +1,6 @@
 -- From what the parts of a call answered to what the call comes to: one law for each way out of a function.
 -- Assumes nothing.
+use Rattle.std.specs.Prelude.{Option, None, Some}
 use mathlib.Core.Path.{◌≡◌, sym, ap, ◌∙◌}
 use mathlib.Core.Bool.{Bool, true, false}
 use mathlib.Core.List.{List}
@@ -21,8 +22,6 @@ use Rattle.trie.specs.Values.{value_of, accepted_of}
 use Rattle.trie.specs.Opening.{Opened, open_tables_of}
 use Rattle.trie.specs.Starting.{Started, start_record_of}
 use Rattle.trie.specs.Stepping.{stepped_by, step_record_of}
-use Rattle.kitesonnet.specs.declared.operations.MaybeOperation.{MaybeOperation}
-use Rattle.kitesonnet.specs.declared.reading.Record.{Record}
 use Rattle.kitesonnet.specs.Operations.{operation_of}
 use Rattle.kitesonnet.specs.Seats.{seats_of, record_at, worker_of, seat_put}
 use Rattle.kitesonnet.specs.Answers.{answer_words, answer_put, value_put, energy_put}
@@ -58,7 +57,7 @@ module _ (i : ℕ) (board : List ℕ) where
   pub begun_refused : (a : Accepted) (w : Worker) (number : ℕ) → a ≡ Accepted.Refused number → begins number board ≡ begun_in i board (started a w)
   begun_refused a w number e = sym (ap (λ (x : Accepted). begun_in i board (started x w)) e)
 
-  pub begun_so : (n w height : ℕ) (o : Operation) (nodes versions : List ℕ) (sum : Promised) (says : Record) (own : Worker) (q : Begins) (r : Started) → height ≡ height_of n → sum ≡ promised_in (height + 1) w board
+  pub begun_so : (n w height : ℕ) (o : Operation) (nodes versions : List ℕ) (sum : Promised) (says : Option Worker) (own : Worker) (q : Begins) (r : Started) → height ≡ height_of n → sum ≡ promised_in (height + 1) w board
       → says ≡ record_at board i → own ≡ worker_of says → r ≡ start_record_of n o sum own nodes versions → q ≡ begun_in i board r
       → q ≡ starts_in n w i o nodes versions board
   begun_so n w height o nodes versions sum says own q r e f g h k l =
@@ -71,22 +70,22 @@ module _ (n w i kind first second : ℕ) (nodes versions board : List ℕ) where
   abbrev s : Lent
   s = lent nodes versions board
 
-  pub no_operation_lem : (x : MaybeOperation) → x ≡ operation_of kind first second → x ≡ MaybeOperation.Not → back 10 s ≡ kite_start_of n w i kind first second s
+  pub no_operation_lem : (x : Option Operation) → x ≡ operation_of kind first second → x ≡ None → back 10 s ≡ kite_start_of n w i kind first second s
   unfolding kite_start_of
-  no_operation_lem x e g = ap (λ (y : MaybeOperation). start_given y n w i s) (sym g ∙ e)
+  no_operation_lem x e g = ap (λ (y : Option Operation). start_given y n w i s) (sym g ∙ e)
 
-  pub start_judged : (x : MaybeOperation) (o : Operation) (r : ℕ) → x ≡ operation_of kind first second → x ≡ MaybeOperation.Is o → r ≡ judged_in n w i nodes versions board → (r ≡ 0 → ⊥) → back r s ≡ kite_start_of n w i kind first second s
+  pub start_judged : (x : Option Operation) (o : Operation) (r : ℕ) → x ≡ operation_of kind first second → x ≡ Some o → r ≡ judged_in n w i nodes versions board → (r ≡ 0 → ⊥) → back r s ≡ kite_start_of n w i kind first second s
   unfolding kite_start_of
   start_judged x o r e g j h =
-      ap (λ (k : ℕ). back k s) j ∙ start_stays n w i nodes versions board o (ap (λ (k : ℕ). eqb k 0) (sym j) ∙ ne_eqb r 0 h) ∙ ap (λ (y : MaybeOperation). start_given y n w i s) (sym g ∙ e)
+      ap (λ (k : ℕ). back k s) j ∙ start_stays n w i nodes versions board o (ap (λ (k : ℕ). eqb k 0) (sym j) ∙ ne_eqb r 0 h) ∙ ap (λ (y : Option Operation). start_given y n w i s) (sym g ∙ e)
 
-  pub start_comes : (x : MaybeOperation) (o : Operation) (r : ℕ) (b : Begins) → x ≡ operation_of kind first second → x ≡ MaybeOperation.Is o → r ≡ judged_in n w i nodes versions board → r ≡ 0
+  pub start_comes : (x : Option Operation) (o : Operation) (r : ℕ) (b : Begins) → x ≡ operation_of kind first second → x ≡ Some o → r ≡ judged_in n w i nodes versions board → r ≡ 0
       → b ≡ starts_in n w i o nodes versions board
       → begun_back n w i nodes versions board b ≡ kite_start_of n w i kind first second s
   unfolding kite_start_of
   start_comes x o r b e g j h q =
       ap (begun_back n w i nodes versions board) q ∙ start_sits n w i nodes versions board o (ap (λ (k : ℕ). eqb k 0) (sym j) ∙ eq-eqb r 0 h)
-      ∙ ap (λ (y : MaybeOperation). start_given y n w i s) (sym g ∙ e)
+      ∙ ap (λ (y : Option Operation). start_given y n w i s) (sym g ∙ e)
 
 -- ---- a worker that is judged to sit on the board
 
@@ -110,15 +109,15 @@ module _ (n i : ℕ) (nodes versions board answer : List ℕ) where
   abbrev lends : Lent
   lends = lent nodes versions board
 
-  pub step_lost : (x : Record) (r : ℕ) → x ≡ record_at board i → x ≡ Record.Not → r ≡ lost_in n nodes versions → answered (back r lends) answer ≡ steps_at n i lends answer
-  step_lost x r e g h = ap (λ (k : ℕ). answered (back k lends) answer) h ∙ ap (λ (y : Record). steps_in n i y lends answer) (sym g ∙ e)
+  pub step_lost : (x : Option Worker) (r : ℕ) → x ≡ record_at board i → x ≡ None → r ≡ lost_in n nodes versions → answered (back r lends) answer ≡ steps_at n i lends answer
+  step_lost x r e g h = ap (λ (k : ℕ). answered (back k lends) answer) h ∙ ap (λ (y : Option Worker). steps_in n i y lends answer) (sym g ∙ e)
 
-  pub step_moves : (x : Record) (own : Worker) (m : Moved) (q : Moves) (nodes' versions' : List ℕ) → x ≡ record_at board i → x ≡ Record.Is own
+  pub step_moves : (x : Option Worker) (own : Worker) (m : Moved) (q : Moves) (nodes' versions' : List ℕ) → x ≡ record_at board i → x ≡ Some own
       → stepped_by m own nodes' versions' ≡ step_record_of n own nodes versions → q ≡ moves_in i board answer m
       → ◌≡◌ {A = Answered} (record { number = q.number; lent = lent nodes' versions' q.board; answer = q.answer }) (steps_at n i lends answer)
   step_moves x own m q nodes' versions' e g h p =
       ap (λ (y : Moves). record { number = y.number; lent = lent nodes' versions' y.board; answer = y.answer }) p ∙ moves_are n i own nodes versions nodes' versions' board answer m h
-      ∙ ap (λ (y : Record). steps_in n i y lends answer) (sym g ∙ e)
+      ∙ ap (λ (y : Option Worker). steps_in n i y lends answer) (sym g ∙ e)
 
 module _ (n w i : ℕ) (nodes versions board answer : List ℕ) where
   abbrev rows : Lent

@@ -8,8 +8,5 @@ pub mod CallLaws
 pub mod SaidLaws
 pub mod Runs
 pub mod Decided
--- What several functions of this crate use, in alphabetical order, for none of these needs another:
--- how a call comes to what it comes to, and how a thing goes one further, as a loop has it.
+-- What several functions of this crate use: how a call comes to what it comes to.
 mod Comes
-mod Copied
-mod Places

@@ -1,18 +1,20 @@
 -- The sum from the board's words is document 01's where all of them are records, and else damage; and it is small enough to be added.
 -- Assumes nothing.
 use Rattle.std.proofs.Math.Path.{◌≡◌, refl}
-use Rattle.std.proofs.Common.{sym, ap, subst, ◌∙◌, drop-drop}
-use Rattle.std.specs.Prelude.{Bool, true, false, ◌&&◌, List, leb, take, drop}
-use Prim.Native.Nat.{ℕ, zero, suc, ◌+◌, ◌*◌, ◌-◌, ◌≤◌, ◌<◌}
+use Rattle.std.proofs.Common.{sym, ap, subst, ◌∙◌}
+use Rattle.std.specs.Prelude.{is_some, Bool, true, false, ◌&&◌, List, leb, take, drop, Option, None, Some}
+use Prim.Native.Nat.{ℕ, zero, suc, ◌+◌, ◌*◌, ◌-◌, ◌≤◌}
+use native.Mathlib.Numerals.{add-one}
 use native.Mathlib.Omega.{arith}
 use Rattle.trie.specs.declared.Phase.{Phase}
 use Rattle.trie.specs.declared.Promised.{Promised}
+use Rattle.trie.specs.declared.Worker.{Worker}
 use Rattle.trie.specs.Choice.{pick}
 use Rattle.trie.specs.Size.{most_workers}
 use Rattle.trie.specs.Record.{owed_phase, together, promised_of}
-use Rattle.kitesonnet.specs.declared.reading.Record.{Record}
 use Rattle.kitesonnet.specs.Reading.{record_of}
-use Rattle.kitesonnet.specs.Seats.{record_words, record_at, is_record, readable, workers_in}
+use Rattle.kitesonnet.specs.Seats.{record_words, record_at, readable, workers_in}
+use Rattle.kitesonnet.proofs.SeatLaws.{at_next}
 use Rattle.kitesonnet.specs.Promising.{owed_in, promised_in, most_share, Most, Small}
 
 -- ---- it is document 01's sum
@@ -22,12 +24,12 @@ damaged_last Promised.Damaged = refl
 damaged_last (Promised.Of a) = refl
 
 module _ (share : ℕ) where
-  sum_by : (r : Record) (b : Bool) (w k : ℕ) (words : List ℕ) → r ≡ record_of (take record_words words) → is_record r && b ≡ true
+  sum_by : (r : Option Worker) (b : Bool) (w k : ℕ) (words : List ℕ) → r ≡ record_of (take record_words words) → is_some r && b ≡ true
       → (b ≡ true → promised_in share w (drop record_words words) ≡ promised_of share w (workers_in k (drop record_words words)))
       → promised_in share (suc w) words ≡ promised_of share (suc w) (workers_in (suc k) words)
   unfolding promised_in workers_in
-  sum_by Record.Not b w k words e t h = absurd (let z : ◌≡◌ {A = ℕ} 0 1 = cc in omega arith)
-  sum_by (Record.Is r) b w k words e t h = rw (← e) (ap (together (owed_phase share r.phase)) (h t))
+  sum_by None b w k words e t h = absurd (let z : ◌≡◌ {A = ℕ} 0 1 = cc in omega arith)
+  sum_by (Some r) b w k words e t h = rw (← e) (ap (together (owed_phase share r.phase)) (h t))
 
   pub promised_is : (w k : ℕ) (words : List ℕ) → w ≤ k → readable w words ≡ true → promised_in share w words ≡ promised_of share w (workers_in k words)
   unfolding readable promised_in
@@ -38,10 +40,10 @@ module _ (share : ℕ) where
 
   -- ---- else it is damage
 
-  damage_by : (r : Record) (b : Bool) (w : ℕ) (words : List ℕ) → is_record r && b ≡ false → (b ≡ false → promised_in share w words ≡ Promised.Damaged)
+  damage_by : (r : Option Worker) (b : Bool) (w : ℕ) (words : List ℕ) → is_some r && b ≡ false → (b ≡ false → promised_in share w words ≡ Promised.Damaged)
       → together (owed_in share r) (promised_in share w words) ≡ Promised.Damaged
-  damage_by Record.Not b w words t h = refl
-  damage_by (Record.Is r) b w words t h = ap (together (owed_phase share r.phase)) (h t) ∙ damaged_last (owed_phase share r.phase)
+  damage_by None b w words t h = refl
+  damage_by (Some r) b w words t h = ap (together (owed_phase share r.phase)) (h t) ∙ damaged_last (owed_phase share r.phase)
 
   pub promised_damaged : (w : ℕ) (words : List ℕ) → readable w words ≡ false → promised_in share w words ≡ Promised.Damaged
   unfolding readable promised_in
@@ -66,9 +68,9 @@ module _ (share : ℕ) where
   owed_most (Phase.Rank k s c e) = omega arith
   owed_most (Phase.Select j s x c) = omega arith
 
-  pub owed_in_most : (r : Record) → Most share (owed_in share r)
-  owed_in_most Record.Not = omega arith
-  owed_in_most (Record.Is r) = owed_most r.phase
+  pub owed_in_most : (r : Option Worker) → Most share (owed_in share r)
+  owed_in_most None = omega arith
+  owed_in_most (Some r) = owed_most r.phase
 
   together_most : (p q : Promised) (k : ℕ) → Most share p → Most k q → Most (share + k) (together p q)
   together_most Promised.Damaged q k h l = omega arith
@@ -98,7 +100,7 @@ unfolding shares
 shares_most share l zero = omega arith
 shares_most share l (suc w) = omega (arith, l, shares_most share l w)
 
-pub owed_small : (share : ℕ) (r : Record) (p : Promised) → p ≡ owed_in share r → share ≤ most_share → Small p
+pub owed_small : (share : ℕ) (r : Option Worker) (p : Promised) → p ≡ owed_in share r → share ≤ most_share → Small p
 owed_small share r p e l = subst Small (sym e) (most_up (owed_in share r) share (most_workers * most_share) (omega (arith, l)) (owed_in_most share r))
 
 pub promised_small : (share w : ℕ) (words : List ℕ) (p : Promised) → p ≡ promised_in share w words → share ≤ most_share → w ≤ most_workers → Small p
@@ -107,32 +109,34 @@ promised_small share w words p e l m = subst Small (sym e) (most_up (promised_in
 pub small_of : (p : Promised) (a : ℕ) → p ≡ Promised.Of a → Small p → a ≤ most_workers * most_share
 small_of p a e h = subst Small e h
 
--- ---- one worker more, from the last to the first
+-- ---- one worker more
 
-pub promised_none : (share w : ℕ) (words : List ℕ) → Promised.Of 0 ≡ promised_in share (w - w) words
+together_assoc : (p q r : Promised) → together (together p q) r ≡ together p (together q r)
+together_assoc Promised.Damaged q r = refl
+together_assoc (Promised.Of a) Promised.Damaged r = refl
+together_assoc (Promised.Of a) (Promised.Of b) Promised.Damaged = refl
+together_assoc (Promised.Of a) (Promised.Of b) (Promised.Of c) =
+    let e : a + b + c ≡ a + (b + c) = omega arith in
+    ap Promised.Of e
+
+nothing_first : (p : Promised) → together (Promised.Of 0) p ≡ together p (Promised.Of 0)
+nothing_first Promised.Damaged = refl
+nothing_first (Promised.Of a) =
+    let e : 0 + a ≡ a + 0 = omega arith in
+    ap Promised.Of e
+
+-- none yet, and one more, as the loop that sums has it
+pub promised_none : (share : ℕ) (words : List ℕ) → Promised.Of 0 ≡ promised_in share 0 words
 unfolding promised_in
-promised_none share w words =
-    let e : 0 ≡ w - w = omega arith in
-    ap (λ (k : ℕ). promised_in share k words) e
+promised_none share words = refl
 
-pub promised_next : (share w i : ℕ) (words : List ℕ) → i < w
-    → together (owed_in share (record_at words i)) (promised_in share (w - (i + 1)) (drop (record_words * (i + 1)) words)) ≡ promised_in share (w - i) (drop (record_words * i) words)
+promised_suc : (share i : ℕ) (words : List ℕ) → together (promised_in share i words) (owed_in share (record_at words i)) ≡ promised_in share (suc i) words
 unfolding promised_in
-promised_next share w i words h =
-    let e : suc (w - (i + 1)) ≡ w - i = omega (arith, h) in
-    let g : record_words * (i + 1) ≡ record_words * i + record_words = omega arith in
-    ap (λ (t : List ℕ). together (owed_in share (record_at words i)) (promised_in share (w - (i + 1)) t)) (ap (λ (k : ℕ). drop k words) g ∙ sym (drop-drop record_words (record_words * i) words))
-    ∙ ap (λ (k : ℕ). promised_in share k (drop (record_words * i) words)) e
+promised_suc share zero words = nothing_first (owed_in share (record_at words 0))
+promised_suc share (suc i) words =
+    together_assoc (owed_in share (record_at words 0)) (promised_in share i (drop record_words words)) (owed_in share (record_at words (suc i)))
+    ∙ ap (λ (r : Option Worker). together (owed_in share (record_at words 0)) (together (promised_in share i (drop record_words words)) (owed_in share r))) (sym (at_next words i))
+    ∙ ap (together (owed_in share (record_at words 0))) (promised_suc share i (drop record_words words))
 
--- the same, as the loop that sums has it
-pub promised_on : (share w i : ℕ) (words : List ℕ) (one sum : Promised) → 0 < i → i ≤ w → one ≡ owed_in share (record_at words (i - 1)) → sum ≡ promised_in share (w - i) (drop (record_words * i) words)
-    → together one sum ≡ promised_in share (w - (i - 1)) (drop (record_words * (i - 1)) words)
-promised_on share w i words one sum l h e g =
-    let z : i ≡ i - 1 + 1 = omega (arith, l) in
-    ap (λ (p : Promised). together p sum) e ∙ ap (together (owed_in share (record_at words (i - 1)))) (g ∙ ap (λ (k : ℕ). promised_in share (w - k) (drop (record_words * k) words)) z)
-    ∙ promised_next share w (i - 1) words (omega (arith, l, h))
-
-pub promised_all : (share w i : ℕ) (words : List ℕ) → i ≡ 0 → promised_in share (w - i) (drop (record_words * i) words) ≡ promised_in share w words
-promised_all share w i words e =
-    let z : w - 0 ≡ w = omega arith in
-    ap (λ (k : ℕ). promised_in share (w - k) (drop (record_words * k) words)) e ∙ ap (λ (k : ℕ). promised_in share k words) z
+pub promised_more : (share i : ℕ) (words : List ℕ) → together (promised_in share i words) (owed_in share (record_at words i)) ≡ promised_in share (i + 1) words
+promised_more share i words = promised_suc share i words ∙ ap (λ (k : ℕ). promised_in share k words) (sym (add-one i))

@@ -1,6 +1,6 @@
 -- Any list of calls in words comes to what the same calls on the records come to, from an accepted open on.
 -- So what is shown of histories holds for a program that links the library. Assumes nothing.
-use Rattle.std.specs.Prelude.{◌≡◌, Bool, List, [], ◌∷◌, ℕ, ◌≤◌, ◌<◌, eqb, leb, length, get_or}
+use Rattle.std.specs.Prelude.{is_some, ◌≡◌, Bool, List, [], ◌∷◌, ℕ, ◌≤◌, ◌<◌, eqb, leb, length, get_or, Option, None, Some}
 use Rattle.std.proofs.Math.Path.{refl, ap, subst}
 use Rattle.std.proofs.Common.{sym, ◌∙◌, arith}
 use Rattle.std.proofs.Math.Bool.{true, false}
@@ -16,10 +16,8 @@ use Rattle.trie.proofs.OpenLaws.{open_board_idle}
 use Rattle.trie.specs.Calls.{State, state, After, after, check, manned, open_of, start_of, step_of}
 use Rattle.judging.specs.Judging.{manned_by}
 use Rattle.judging.proofs.JudgingLaws.{manned_by_lem}
-use Rattle.kitesonnet.specs.declared.operations.MaybeOperation.{MaybeOperation}
-use Rattle.kitesonnet.specs.declared.reading.Record.{Record}
 use Rattle.kitesonnet.specs.Operations.{operation_of}
-use Rattle.kitesonnet.specs.Seats.{seats_of, record_at, said, is_record, readable, seat_put}
+use Rattle.kitesonnet.specs.Seats.{seats_of, record_at, said, readable, seat_put}
 use Rattle.kitesonnet.proofs.SeatLaws.{said_length, seats_rest}
 use Rattle.kitesonnet.specs.Answers.{answer_words}
 use Rattle.kitesonnet.specs.Calls.{Lent, lent, state_of, returned, writes_first, writes_at, kite_open_of, start_said, start_given, kite_start_of, step_said, step_roomy, kite_step_of}
@@ -38,9 +36,9 @@ in_words n w answer (starts i kind first second) s = (kite_start_of n w i kind f
 in_words n w answer (steps i) s = (kite_step_of n w i s answer).lent
 
 -- numbers that are no operation start nothing
-abbrev pub start_on : MaybeOperation → ℕ → ℕ → ℕ → State → State
-start_on MaybeOperation.Not n w i s = s
-start_on (MaybeOperation.Is o) n w i s = (start_of n w i o s).state
+abbrev pub start_on : Option Operation → ℕ → ℕ → ℕ → State → State
+start_on None n w i s = s
+start_on (Some o) n w i s = (start_of n w i o s).state
 
 abbrev pub on_records : ℕ → ℕ → Called → State → State
 on_records n w (starts i kind first second) s = start_on (operation_of kind first second) n w i s
@@ -77,32 +75,32 @@ module _ (n w : ℕ) (answer nodes versions board : List ℕ) (long : leb answer
     start_said_lem o true e = at_seat (start_of n w i o (state_of s)) (seats_so nodes versions board n w i e)
     start_said_lem o false e = subst (λ (a : After Ok). readable w (writes_at i s a).lent.board ≡ true) (sym (call_judged n w i nodes versions board _ e)) said_all
 
-    start_by : (x : MaybeOperation) (kind first second : ℕ) → operation_of kind first second ≡ x
+    start_by : (x : Option Operation) (kind first second : ℕ) → operation_of kind first second ≡ x
         → (state_of (kite_start_of n w i kind first second s).lent ≡ start_on x n w i (state_of s)) × (readable w (kite_start_of n w i kind first second s).lent.board ≡ true)
     unfolding kite_start_of
-    start_by MaybeOperation.Not kind first second e = (
-      ap (λ (y : MaybeOperation). state_of (start_given y n w i s).lent) e,
-      ap (λ (y : MaybeOperation). readable w (start_given y n w i s).lent.board) e ∙ said_all,
+    start_by None kind first second e = (
+      ap (λ (y : Option Operation). state_of (start_given y n w i s).lent) e,
+      ap (λ (y : Option Operation). readable w (start_given y n w i s).lent.board) e ∙ said_all,
     )
-    start_by (MaybeOperation.Is o) kind first second e = (
+    start_by (Some o) kind first second e = (
       start_is nodes versions board n w i kind first second o e said_all,
-      ap (λ (y : MaybeOperation). readable w (start_given y n w i s).lent.board) e ∙ ap (λ (b : Bool). readable w (writes_at i s (start_said b n w i o (state_of s))).lent.board) said_all ∙ start_said_lem o judged refl,
+      ap (λ (y : Option Operation). readable w (start_given y n w i s).lent.board) e ∙ ap (λ (b : Bool). readable w (writes_at i s (start_said b n w i o (state_of s))).lent.board) said_all ∙ start_said_lem o judged refl,
     )
 
     -- the worker's own words are a record, as it is one of the board's
-    step_of_lem : (x : Record) → record_at board i ≡ x → is_record x ≡ true → state_of (kite_step_of n w i s answer).lent ≡ (step_of n w i (state_of s)).state
-    step_of_lem Record.Not e g = absurd (let z : ◌≡◌ {A = ℕ} 0 1 = cc in omega arith)
-    step_of_lem (Record.Is r) e g = step_is nodes versions board n w i r answer e long
+    step_of_lem : (x : Option Worker) → record_at board i ≡ x → is_some x ≡ true → state_of (kite_step_of n w i s answer).lent ≡ (step_of n w i (state_of s)).state
+    step_of_lem None e g = absurd (let z : ◌≡◌ {A = ℕ} 0 1 = cc in omega arith)
+    step_of_lem (Some r) e g = step_is nodes versions board n w i r answer e long
 
     step_by : (b : Bool) → judged ≡ b → state_of (kite_step_of n w i s answer).lent ≡ (step_of n w i (state_of s)).state
     unfolding kite_step_of
     step_by true e = step_of_lem (record_at board i) refl (readable_one w board i said_all (sits n w i nodes versions board e).below)
     step_by false e = ap (λ (b : Bool). state_of (step_roomy b n w i s answer).lent) long ∙ step_stopped nodes versions board n w i (record_at board i) e
 
-    stopped : (x : Record) → judged ≡ false → readable w (writes_at i s (step_said x n w i (state_of s))).lent.board ≡ true
+    stopped : (x : Option Worker) → judged ≡ false → readable w (writes_at i s (step_said x n w i (state_of s))).lent.board ≡ true
     unfolding step_of
-    stopped Record.Not e = subst (λ (a : After Course). readable w (writes_at i s a).lent.board ≡ true) (sym (call_judged n w i nodes versions board _ e)) said_all
-    stopped (Record.Is r) e = subst (λ (a : After Course). readable w (writes_at i s a).lent.board ≡ true) (sym (call_judged n w i nodes versions board _ e)) said_all
+    stopped None e = subst (λ (a : After Course). readable w (writes_at i s a).lent.board ≡ true) (sym (call_judged n w i nodes versions board _ e)) said_all
+    stopped (Some r) e = subst (λ (a : After Course). readable w (writes_at i s a).lent.board ≡ true) (sym (call_judged n w i nodes versions board _ e)) said_all
 
     step_said_lem : (b : Bool) → judged ≡ b → readable w (writes_at i s (step_said (record_at board i) n w i (state_of s))).lent.board ≡ true
     step_said_lem true e = at_seat (step_said (record_at board i) n w i (state_of s)) (seats_so nodes versions board n w i e)

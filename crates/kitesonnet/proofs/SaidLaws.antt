@@ -1,6 +1,6 @@
 -- Each call in words is document 01's call on the state that the words say: the words after it say the records after it, and it tells the same.
 -- Assumes nothing.
-use Rattle.std.specs.Prelude.{◌≡◌, ◌≢◌, Bool, true, false, ◌&&◌, eqb, ltb, leb, length, get_or, take, drop}
+use Rattle.std.specs.Prelude.{is_some, ◌≡◌, ◌≢◌, Bool, true, false, ◌&&◌, eqb, ltb, leb, length, get_or, take, drop, Option, None, Some}
 use Rattle.std.proofs.Math.Path.{refl, ap}
 use Rattle.std.proofs.Common.{sym, subst, ◌∙◌, arith, ltb-true, ltb-false, eqb-true, take-append-drop, length-drop, length-set, drop-drop, take_at, drop_at, length-take-le, ext_get_or, get_or-set_same, get_or-set_other}
 use mathlib.Core.List.{List, ◌++◌, append_assoc}
@@ -28,13 +28,11 @@ use Rattle.trie.specs.Calls.{state, After, after, check, manned, open_of, start_
 use Rattle.trie.proofs.CallLaws.{start_refused}
 use Rattle.judging.specs.Judging.{manned_by, judge_of}
 use Rattle.judging.proofs.JudgingLaws.{manned_by_lem, start_seated, start_refused as start_judged, step_seated, step_refused as step_judged}
-use Rattle.kitesonnet.specs.declared.operations.MaybeOperation.{MaybeOperation}
-use Rattle.kitesonnet.specs.declared.reading.Record.{Record}
 use Rattle.kitesonnet.specs.Operations.{operation_of}
 use Rattle.kitesonnet.specs.Reading.{record_of}
 use Rattle.kitesonnet.specs.Writing.{words_of}
 use Rattle.kitesonnet.proofs.RecordLaws.{record_back}
-use Rattle.kitesonnet.specs.Seats.{record_words, seats_of, record_at, worker_of, said, is_record, readable, seat_put}
+use Rattle.kitesonnet.specs.Seats.{record_words, seats_of, record_at, worker_of, said, readable, seat_put}
 use Rattle.kitesonnet.specs.Seats.{seats_rested}
 use Rattle.kitesonnet.proofs.SeatLaws.{said_length, at_next, said_at, seats_rest}
 use Rattle.kitesonnet.specs.Answers.{answer_words}
@@ -91,7 +89,7 @@ module _ (board : List ℕ) (i : ℕ) (w : Worker) (h : i < seats_of board) wher
       ∙ subst (λ (k : ℕ). take k (words_of w) ≡ words_of w) (words_length w) (take-length (words_of w))
 
   -- what was written is read
-  pub put_own : record_at (seat_put board i w) i ≡ Record.Is w
+  pub put_own : record_at (seat_put board i w) i ≡ Some w
   put_own = ap record_of own_words ∙ record_back w
 
   before_words : (j : ℕ) → j < i → take record_words (drop (record_words * j) (seat_put board i w)) ≡ take record_words (drop (record_words * j) board)
@@ -134,29 +132,29 @@ module _ (board : List ℕ) (i : ℕ) (w : Worker) (h : i < seats_of board) wher
 
 -- ---- words that are records stay records
 
-pub readable_one : (w : ℕ) (words : List ℕ) (j : ℕ) → readable w words ≡ true → j < w → is_record (record_at words j) ≡ true
+pub readable_one : (w : ℕ) (words : List ℕ) (j : ℕ) → readable w words ≡ true → j < w → is_some (record_at words j) ≡ true
 unfolding readable
 readable_one zero words j e l = absurd (omega arith)
-readable_one (suc w) words zero e l = and_first (is_record (record_of (take record_words words))) (readable w (drop record_words words)) e
-readable_one (suc w) words (suc j) e l = sym (ap is_record (at_next words j)) ∙ readable_one w (drop record_words words) j (and_second (is_record (record_of (take record_words words))) (readable w (drop record_words words)) e) (omega arith)
+readable_one (suc w) words zero e l = and_first (is_some (record_of (take record_words words))) (readable w (drop record_words words)) e
+readable_one (suc w) words (suc j) e l = sym (ap is_some (at_next words j)) ∙ readable_one w (drop record_words words) j (and_second (is_some (record_of (take record_words words))) (readable w (drop record_words words)) e) (omega arith)
 
-readable_all : (w : ℕ) (words : List ℕ) → ((j : ℕ) → j < w → is_record (record_at words j) ≡ true) → readable w words ≡ true
+readable_all : (w : ℕ) (words : List ℕ) → ((j : ℕ) → j < w → is_some (record_at words j) ≡ true) → readable w words ≡ true
 unfolding readable
 readable_all zero words h = refl
 readable_all (suc w) words h =
-    ap (λ (b : Bool). b && readable w (drop record_words words)) (h 0 (omega arith)) ∙ readable_all w (drop record_words words) (λ j l. ap is_record (at_next words j) ∙ h (suc j) (omega arith))
+    ap (λ (b : Bool). b && readable w (drop record_words words)) (h 0 (omega arith)) ∙ readable_all w (drop record_words words) (λ j l. ap is_some (at_next words j) ∙ h (suc j) (omega arith))
 
 module _ (board : List ℕ) (i : ℕ) (v : Worker) (h : i < seats_of board) where
-  put_by : (j : ℕ) (b : Bool) → eqb j i ≡ b → (j ≢ i → is_record (record_at board j) ≡ true) → is_record (record_at (seat_put board i v) j) ≡ true
-  put_by j true e k = ap (λ (x : ℕ). is_record (record_at (seat_put board i v) x)) (eqb-true j i e) ∙ ap is_record (put_own board i v h)
-  put_by j false e k = ap is_record (put_other board i v h j (eqb-false j i e)) ∙ k (eqb-false j i e)
+  put_by : (j : ℕ) (b : Bool) → eqb j i ≡ b → (j ≢ i → is_some (record_at board j) ≡ true) → is_some (record_at (seat_put board i v) j) ≡ true
+  put_by j true e k = ap (λ (x : ℕ). is_some (record_at (seat_put board i v) x)) (eqb-true j i e) ∙ ap is_some (put_own board i v h)
+  put_by j false e k = ap is_some (put_other board i v h j (eqb-false j i e)) ∙ k (eqb-false j i e)
 
   -- one record written
   pub readable_put : (w : ℕ) → readable w board ≡ true → readable w (seat_put board i v) ≡ true
   readable_put w e = readable_all w (seat_put board i v) (λ j l. put_by j (eqb j i) refl (λ d. readable_one w board j e l))
 
 -- the first workers at rest
-rested_one : (k : ℕ) (board : List ℕ) → k ≤ seats_of board → (seats_of (seats_rested k board) ≡ seats_of board) × ((j : ℕ) → j < k → is_record (record_at (seats_rested k board) j) ≡ true)
+rested_one : (k : ℕ) (board : List ℕ) → k ≤ seats_of board → (seats_of (seats_rested k board) ≡ seats_of board) × ((j : ℕ) → j < k → is_some (record_at (seats_rested k board) j) ≡ true)
 unfolding seats_rested
 rested_one zero board l = (refl, λ j m. absurd (omega arith))
 rested_one (suc k) board l =
@@ -218,25 +216,25 @@ module _ (nodes versions board : List ℕ) where
     step_by false e = subst (λ (a : After Course). state_of (writes_at i s a).lent ≡ a.state) (sym (step_judged n w i nodes versions (said board) (judged_so false e))) refl
 
     -- a step that is refused before it comes to a record, whatever the words are
-    pub step_stopped : (x : Record) → eqb (judged_in n w i nodes versions board) 0 ≡ false → state_of (writes_at i s (step_said x n w i (state_of s))).lent ≡ (step_of n w i (state_of s)).state
-    step_stopped Record.Not e =
+    pub step_stopped : (x : Option Worker) → eqb (judged_in n w i nodes versions board) 0 ≡ false → state_of (writes_at i s (step_said x n w i (state_of s))).lent ≡ (step_of n w i (state_of s)).state
+    step_stopped None e =
         subst (λ (a : After Course). state_of (writes_at i s a).lent ≡ state_of s) (sym (call_judged n w i nodes versions board (after {A = Course} (refused 9) (state_of s)) e)) refl
         ∙ sym (ap (λ (a : After Course). a.state) (step_judged n w i nodes versions (said board) (judged_so false e)))
-    step_stopped (Record.Is r) e = step_by false e
+    step_stopped (Some r) e = step_by false e
 
     -- where every worker's words are a record, a start in words is the start of what they say
-    pub start_is : (kind first second : ℕ) (o : Operation) → operation_of kind first second ≡ MaybeOperation.Is o → readable w board ≡ true
+    pub start_is : (kind first second : ℕ) (o : Operation) → operation_of kind first second ≡ Some o → readable w board ≡ true
         → state_of (kite_start_of n w i kind first second s).lent ≡ (start_of n w i o (state_of s)).state
     unfolding kite_start_of
     start_is kind first second o e g =
-        ap (λ (x : MaybeOperation). state_of (start_given x n w i s).lent) e ∙ ap (λ (b : Bool). state_of (writes_at i s (start_said b n w i o (state_of s))).lent) g
+        ap (λ (x : Option Operation). state_of (start_given x n w i s).lent) e ∙ ap (λ (b : Bool). state_of (writes_at i s (start_said b n w i o (state_of s))).lent) g
         ∙ start_by o (eqb (judged_in n w i nodes versions board) 0) refl
 
     -- where the worker's own words are a record, so is a step
-    pub step_is : (r : Worker) (answer : List ℕ) → record_at board i ≡ Record.Is r → leb answer_words (length answer) ≡ true → state_of (kite_step_of n w i s answer).lent ≡ (step_of n w i (state_of s)).state
+    pub step_is : (r : Worker) (answer : List ℕ) → record_at board i ≡ Some r → leb answer_words (length answer) ≡ true → state_of (kite_step_of n w i s answer).lent ≡ (step_of n w i (state_of s)).state
     unfolding kite_step_of
     step_is r answer e g =
-        ap (λ (b : Bool). state_of (step_roomy b n w i s answer).lent) g ∙ ap (λ (x : Record). state_of (writes_at i s (step_said x n w i (state_of s))).lent) e
+        ap (λ (b : Bool). state_of (step_roomy b n w i s answer).lent) g ∙ ap (λ (x : Option Worker). state_of (writes_at i s (step_said x n w i (state_of s))).lent) e
         ∙ step_by (eqb (judged_in n w i nodes versions board) 0) refl
 
   -- ---- an open, whatever the words are
@@ -279,17 +277,17 @@ module _ (n w i : ℕ) (s : Lent) where
   unfolding kite_open_of
   open_told = returned_number (open_of n w (state_of s)).told s _
 
-  pub start_told : (kind first second : ℕ) (o : Operation) → operation_of kind first second ≡ MaybeOperation.Is o → readable w s.board ≡ true
+  pub start_told : (kind first second : ℕ) (o : Operation) → operation_of kind first second ≡ Some o → readable w s.board ≡ true
       → (kite_start_of n w i kind first second s).number ≡ number_told (start_of n w i o (state_of s)).told
   unfolding kite_start_of
   start_told kind first second o e g =
-      ap (λ (x : MaybeOperation). (start_given x n w i s).number) e ∙ ap (λ (b : Bool). (writes_at i s (start_said b n w i o (state_of s))).number) g
+      ap (λ (x : Option Operation). (start_given x n w i s).number) e ∙ ap (λ (b : Bool). (writes_at i s (start_said b n w i o (state_of s))).number) g
       ∙ returned_number (start_of n w i o (state_of s)).told s _
 
-  pub step_told_lem : (r : Worker) (answer : List ℕ) → record_at s.board i ≡ Record.Is r → leb answer_words (length answer) ≡ true
+  pub step_told_lem : (r : Worker) (answer : List ℕ) → record_at s.board i ≡ Some r → leb answer_words (length answer) ≡ true
       → ((kite_step_of n w i s answer).number ≡ number_told (step_of n w i (state_of s)).told) × ((kite_step_of n w i s answer).answer ≡ answer_after (step_of n w i (state_of s)).told answer)
   unfolding kite_step_of
   step_told_lem r answer e g = (
-    ap (λ (b : Bool). (step_roomy b n w i s answer).number) g ∙ ap (λ (x : Record). (step_told i s answer (step_said x n w i (state_of s))).number) e ∙ returned_number (step_of n w i (state_of s)).told s _,
-    ap (λ (b : Bool). (step_roomy b n w i s answer).answer) g ∙ ap (λ (x : Record). (step_told i s answer (step_said x n w i (state_of s))).answer) e,
+    ap (λ (b : Bool). (step_roomy b n w i s answer).number) g ∙ ap (λ (x : Option Worker). (step_told i s answer (step_said x n w i (state_of s))).number) e ∙ returned_number (step_of n w i (state_of s)).told s _,
+    ap (λ (b : Bool). (step_roomy b n w i s answer).answer) g ∙ ap (λ (x : Option Worker). (step_told i s answer (step_said x n w i (state_of s))).answer) e,
   )

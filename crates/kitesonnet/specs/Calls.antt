@@ -1,14 +1,13 @@
 -- The four calls of the library: document 01's calls over the records that the board's words say, told in words.
 -- A refused call leaves every word. Assumes nothing.
-use Rattle.std.specs.Prelude.{Bool, true, false, not, List, ℕ, leb, length, get_or}
+use Rattle.std.specs.Prelude.{Bool, true, false, not, List, ℕ, leb, length, get_or, Option, None, Some}
 use Rattle.decibel.specs.Told.{Told, refused, gives}
 use Rattle.decibel.specs.Conversion.{convert_of}
 use Rattle.trie.specs.declared.Operation.{Operation}
+use Rattle.trie.specs.declared.Worker.{Worker}
 use Rattle.trie.specs.Record.{idle, busy, operation_fits}
 use Rattle.trie.specs.Values.{Ok, Course}
 use Rattle.trie.specs.Calls.{State, state, After, after, check, check_call, open_of, start_of, step_of}
-use Rattle.kitesonnet.specs.declared.operations.MaybeOperation.{MaybeOperation}
-use Rattle.kitesonnet.specs.declared.reading.Record.{Record}
 use Rattle.kitesonnet.specs.Operations.{operation_of}
 use Rattle.kitesonnet.specs.Seats.{said, record_at, readable, seat_put, seats_put}
 use Rattle.kitesonnet.specs.Answers.{answer_words, course_put, energy_put}
@@ -69,9 +68,9 @@ start_said true n w i o s = start_of n w i o s
 start_said false n w i o s = start_damaged n w i o s
 
 -- numbers that are no operation are refused first
-abbrev pub start_given : MaybeOperation → ℕ → ℕ → ℕ → Lent → Back
-start_given MaybeOperation.Not n w i s = back 10 s
-start_given (MaybeOperation.Is o) n w i s = writes_at i s (start_said (readable w s.board) n w i o (state_of s))
+abbrev pub start_given : Option Operation → ℕ → ℕ → ℕ → Lent → Back
+start_given None n w i s = back 10 s
+start_given (Some o) n w i s = writes_at i s (start_said (readable w s.board) n w i o (state_of s))
 
 unfoldable pub kite_start_of : ℕ → ℕ → ℕ → ℕ → ℕ → ℕ → Lent → Back
 kite_start_of n w i kind first second s = start_given (operation_of kind first second) n w i s
@@ -92,9 +91,9 @@ answer_after (refused number) answer = answer
 answer_after (gives c) answer = course_put answer c
 
 -- the worker's own words are no record: 9 at its place, behind 1, 2, 3 and 4
-abbrev pub step_said : Record → ℕ → ℕ → ℕ → State → After Course
-step_said Record.Not n w i s = check_call n w i s (after (refused 9) s)
-step_said (Record.Is r) n w i s = step_of n w i s
+abbrev pub step_said : Option Worker → ℕ → ℕ → ℕ → State → After Course
+step_said None n w i s = check_call n w i s (after (refused 9) s)
+step_said (Some r) n w i s = step_of n w i s
 
 abbrev pub step_told : ℕ → Lent → List ℕ → After Course → Answered
 step_told i s answer a = answered (writes_at i s a) (answer_after a.told answer)

@@ -1,6 +1,6 @@
 -- What the code does with one record of the board's words, once the lengths have been judged: the contracts of the calls' parts speak of it.
 -- Assumes nothing.
-use Rattle.std.specs.Prelude.{List, ℕ, ◌+◌}
+use Rattle.std.specs.Prelude.{List, ℕ, ◌+◌, Option, None, Some}
 use Rattle.decibel.specs.Told.{Told, refused, gives}
 use Rattle.trie.specs.declared.Moved.{Moved}
 use Rattle.trie.specs.declared.Operation.{Operation}
@@ -12,7 +12,6 @@ use Rattle.trie.specs.Record.{idle}
 use Rattle.trie.specs.Values.{Ok, on, done, value_of}
 use Rattle.trie.specs.Starting.{Started, start_record_of}
 use Rattle.trie.specs.Stepping.{Stepped, step_record_of}
-use Rattle.kitesonnet.specs.declared.reading.Record.{Record}
 use Rattle.kitesonnet.specs.Seats.{record_at, worker_of, seat_put}
 use Rattle.kitesonnet.specs.Answers.{course_put}
 use Rattle.kitesonnet.specs.Calls.{Lent, lent, back, returned, Answered, answered, answer_after}
@@ -59,9 +58,9 @@ lost_in n nodes versions = pick (allowed n) (pick (roomy n nodes versions) 9 3) 
 abbrev pub stepped_in : ℕ → Lent → List ℕ → Stepped → Answered
 stepped_in i s answer r = answered (returned r.told s (lent r.nodes r.versions (seat_put s.board i r.worker))) (answer_after r.told answer)
 
-abbrev pub steps_in : ℕ → ℕ → Record → Lent → List ℕ → Answered
-steps_in n i Record.Not s answer = answered (back (lost_in n s.nodes s.versions) s) answer
-steps_in n i (Record.Is w) s answer = stepped_in i s answer (step_record_of n w s.nodes s.versions)
+abbrev pub steps_in : ℕ → ℕ → Option Worker → Lent → List ℕ → Answered
+steps_in n i None s answer = answered (back (lost_in n s.nodes s.versions) s) answer
+steps_in n i (Some w) s answer = stepped_in i s answer (step_record_of n w s.nodes s.versions)
 
 -- a step of worker i, which has its words on the board
 abbrev pub steps_at : ℕ → ℕ → Lent → List ℕ → Answered

@@ -1,17 +1,17 @@
 -- What is promised, summed from the board's words, and numbers that it never passes.
 -- Assumes nothing.
-use Rattle.std.specs.Prelude.{List, ℕ, zero, suc, ◌*◌, ◌≤◌, take, drop}
+use Rattle.std.specs.Prelude.{List, ℕ, zero, suc, ◌*◌, ◌≤◌, take, drop, Option, None, Some}
 use Rattle.trie.specs.declared.Promised.{Promised}
+use Rattle.trie.specs.declared.Worker.{Worker}
 use Rattle.trie.specs.Size.{most_workers}
 use Rattle.trie.specs.Record.{owed_phase, together}
-use Rattle.kitesonnet.specs.declared.reading.Record.{Record}
 use Rattle.kitesonnet.specs.Reading.{record_of}
 use Rattle.kitesonnet.specs.Seats.{record_words}
 
 -- what one worker's update may still make
-abbrev pub owed_in : ℕ → Record → Promised
-owed_in share Record.Not = Promised.Damaged
-owed_in share (Record.Is r) = owed_phase share r.phase
+abbrev pub owed_in : ℕ → Option Worker → Promised
+owed_in share None = Promised.Damaged
+owed_in share (Some r) = owed_phase share r.phase
 
 unfoldable pub promised_in : ℕ → ℕ → List ℕ → Promised
 promised_in share zero words = Promised.Of 0

@@ -1,10 +1,9 @@
 -- The board as words: twelve for each worker, and the records that they say.
 -- docs/WORDS.md, "The board". Assumes nothing.
-use Rattle.std.specs.Prelude.{Bool, true, false, ◌&&◌, List, [], ◌∷◌, ℕ, zero, suc, ◌*◌, ◌/◌, length, get_or, take, drop}
+use Rattle.std.specs.Prelude.{Bool, true, ◌&&◌, List, [], ◌∷◌, ℕ, zero, suc, ◌*◌, ◌/◌, length, get_or, take, drop, Option, is_some, unwrap_or}
 use Rattle.std.proofs.Math.Seq.{paste}
 use Rattle.trie.specs.declared.Worker.{Worker}
 use Rattle.trie.specs.Record.{idle}
-use Rattle.kitesonnet.specs.declared.reading.Record.{Record}
 use Rattle.kitesonnet.specs.Reading.{record_of}
 use Rattle.kitesonnet.specs.Writing.{words_of}
 
@@ -17,13 +16,12 @@ abbrev pub seats_of : List ℕ → ℕ
 seats_of board = length board / record_words
 
 -- what the words of worker i say
-abbrev pub record_at : List ℕ → ℕ → Record
+abbrev pub record_at : List ℕ → ℕ → Option Worker
 record_at board i = record_of (take record_words (drop (record_words * i) board))
 
 -- words that are no record stand for an idle worker, so that 5 is not given for them: 9 is
-abbrev pub worker_of : Record → Worker
-worker_of Record.Not = idle
-worker_of (Record.Is w) = w
+abbrev pub worker_of : Option Worker → Worker
+worker_of says = unwrap_or says idle
 
 -- the first k workers that the words say
 unfoldable pub workers_in : ℕ → List ℕ → List Worker
@@ -34,14 +32,10 @@ workers_in (suc k) words = worker_of (record_of (take record_words words)) ∷ w
 abbrev pub said : List ℕ → List Worker
 said board = workers_in (seats_of board) board
 
-abbrev pub is_record : Record → Bool
-is_record Record.Not = false
-is_record (Record.Is w) = true
-
 -- the words of each of the first w workers are a record
 unfoldable pub readable : ℕ → List ℕ → Bool
 readable zero words = true
-readable (suc w) words = is_record (record_of (take record_words words)) && readable w (drop record_words words)
+readable (suc w) words = is_some (record_of (take record_words words)) && readable w (drop record_words words)
 
 -- the board with the words of a record in worker i's place
 abbrev pub seat_put : List ℕ → ℕ → Worker → List ℕ

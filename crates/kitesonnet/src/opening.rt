@@ -16,10 +16,8 @@ fn rest(w: usize, board: &mut [u64])
     requires { record_words * w ≤ length board.old }
     ensures { board.new ≡ seats_rested w board.old }
 {
-    let mut i = 0;
-    while i < w {
+    for i in 0..w {
         put_record(board, i, rested());
-        i += 1;
     }
 }
 

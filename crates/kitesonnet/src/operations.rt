@@ -1,12 +1,12 @@
 // The operation of a start, out of its three numbers: a kind and two arguments.
 // A kind that is none, or an argument that the operation does not have and is not 0, is no operation: refusal 10.
 ghost use Rattle.std.specs.Prelude.{◌≡◌};
-ghost use Rattle.kitesonnet.specs.Operations.{update_of, query_of, from_update, from_query, operation_of};
+ghost use Rattle.kitesonnet.specs.Operations.{update_of, query_of, operation_of};
 
 use decibel::Level;
 use trie::{Operation, Query, Update};
 
-// The kinds of operations.
+// The kinds of operations, as C names them. `Operation` is the enum of them, so that none stands between it and the numbers.
 pub(crate) const INSERT_KIND: u64 = 1;
 
 pub(crate) const DELETE_KIND: u64 = 2;
@@ -19,80 +19,37 @@ pub(crate) const RANK_KIND: u64 = 5;
 
 pub(crate) const TOTAL_KIND: u64 = 6;
 
-#[derive(Clone, Copy)]
-pub enum MaybeUpdate {
-    Not,
-    Is(Update),
-}
-
-#[derive(Clone, Copy)]
-pub enum MaybeQuery {
-    Not,
-    Is(Query),
-}
-
-#[derive(Clone, Copy)]
-pub enum MaybeOperation {
-    Not,
-    Is(Operation),
-}
-
-pub(crate) fn update_of(kind: u64, cell: u64, level: u64) -> MaybeUpdate
+#[tactic(auto, unfolding(crate::specs::Operations::update_of))]
+pub(crate) fn update_of(kind: u64, cell: u64, level: u64) -> Option<Update>
     ensures { result ≡ update_of kind cell level }
 {
-    if kind == INSERT_KIND {
-        return MaybeUpdate::Is(Update::Insert(cell, Level(level)));
+    match (kind, level) {
+        (INSERT_KIND, _) => Some(Update::Insert(cell, Level(level))),
+        (DELETE_KIND, 0) => Some(Update::Delete(cell)),
+        _ => None,
     }
-    if (kind == DELETE_KIND) & (level == 0) {
-        return MaybeUpdate::Is(Update::Delete(cell));
-    }
-    MaybeUpdate::Not
 }
 
-pub(crate) fn query_of(kind: u64, number: u64) -> MaybeQuery
+#[tactic(auto, unfolding(crate::specs::Operations::query_of))]
+pub(crate) fn query_of(kind: u64, number: u64) -> Option<Query>
     ensures { result ≡ query_of kind number }
 {
-    if kind == FIND_KIND {
-        return MaybeQuery::Is(Query::Find(number));
-    }
-    if kind == SELECT_KIND {
-        return MaybeQuery::Is(Query::Select(number));
-    }
-    if kind == RANK_KIND {
-        return MaybeQuery::Is(Query::Rank(number));
-    }
-    if (kind == TOTAL_KIND) & (number == 0) {
-        return MaybeQuery::Is(Query::Total);
-    }
-    MaybeQuery::Not
-}
-
-fn from_update(said: MaybeUpdate) -> MaybeOperation
-    ensures { result ≡ from_update said }
-{
-    match said {
-        MaybeUpdate::Not => MaybeOperation::Not,
-        MaybeUpdate::Is(update) => MaybeOperation::Is(Operation::Update(update)),
+    match (kind, number) {
+        (FIND_KIND, _) => Some(Query::Find(number)),
+        (SELECT_KIND, _) => Some(Query::Select(number)),
+        (RANK_KIND, _) => Some(Query::Rank(number)),
+        (TOTAL_KIND, 0) => Some(Query::Total),
+        _ => None,
     }
 }
 
-fn from_query(said: MaybeQuery) -> MaybeOperation
-    ensures { result ≡ from_query said }
-{
-    match said {
-        MaybeQuery::Not => MaybeOperation::Not,
-        MaybeQuery::Is(query) => MaybeOperation::Is(Operation::Query(query)),
-    }
-}
-
-pub(crate) fn operation_of(kind: u64, number: u64, level: u64) -> MaybeOperation
+#[tactic(auto, unfolding(crate::specs::Operations::operation_of))]
+pub(crate) fn operation_of(kind: u64, number: u64, level: u64) -> Option<Operation>
     ensures { result ≡ operation_of kind number level }
 {
-    if kind <= DELETE_KIND {
-        return from_update(update_of(kind, number, level));
+    match kind {
+        ..=DELETE_KIND => update_of(kind, number, level).map(Operation::Update),
+        _ if level == 0 => query_of(kind, number).map(Operation::Query),
+        _ => None,
     }
-    if level == 0 {
-        return from_query(query_of(kind, number));
-    }
-    MaybeOperation::Not
 }

@@ -8,9 +8,8 @@ ghost use Rattle.trie.specs.Record.{owed_phase, together};
 ghost use Rattle.kitesonnet.specs.Seats.{record_words};
 ghost use Rattle.kitesonnet.specs.Promising.{owed_in, promised_in, most_share, Small};
 
-use crate::reading::Record;
 use crate::seats::record_at;
-use trie::{Phase, Promised};
+use trie::{Phase, Promised, Worker};
 
 // What is left of an update's share.
 fn left_of(share: u64, made: u64) -> Promised
@@ -38,12 +37,12 @@ fn owed(share: u64, phase: Phase) -> Promised
     }
 }
 
-fn owed_in(share: u64, says: Record) -> Promised
+fn owed_in(share: u64, says: Option<Worker>) -> Promised
     ensures { result ≡ owed_in share says }
 {
     match says {
-        Record::Not => Promised::Damaged,
-        Record::Is(w) => {
+        None => Promised::Damaged,
+        Some(w) => {
             let phase = w.phase;
             owed(share, phase)
         }
@@ -63,16 +62,13 @@ fn join(one: Promised, others: Promised) -> Promised
     Promised::Of(a + b)
 }
 
-// From the last worker to the first, so that what is summed is always that of the words from a place on.
 pub(crate) fn promised_in(share: u64, w: usize, board: &[u64]) -> Promised
     requires { (share ≤ most_share) × (w ≤ most_workers) × (record_words * w ≤ length board.now) }
     ensures { result ≡ promised_in share w board.now }
 {
     let mut sum = Promised::Of(0);
-    let mut i = w;
-    while 0 < i {
-        i -= 1;
-        sum = join(owed_in(share, record_at(board, i)), sum);
+    for i in 0..w {
+        sum = join(sum, owed_in(share, record_at(board, i)));
     }
     sum
 }

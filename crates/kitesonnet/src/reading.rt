@@ -1,15 +1,17 @@
 // The record that twelve words say, or that they say none.
 // Each word that has no meaning in the record's phase has to be 0.
-ghost use Rattle.std.specs.Prelude.{◌≡◌};
-ghost use Rattle.kitesonnet.specs.Reading.{bare, in_phase, standing_of, refresh_of, climbing, climb_of, update_in, ask_in, query_in, record_of};
+ghost use Rattle.std.specs.Prelude.{◌≡◌, ◌≤◌};
+ghost use Rattle.kitesonnet.specs.Seats.{record_words};
+ghost use Rattle.kitesonnet.specs.Reading.{bare, flag_of, refresh_of, climb_of, update_in, ask_in, query_in, record_of};
 
 use crate::RECORD_WORDS;
-use crate::operations::{MaybeQuery, MaybeUpdate, query_of, update_of};
+use crate::operations::{query_of, update_of};
 use decibel::Energy;
-use trie::{Climb, Held, NodeNumber, Phase, Standing, Update, VersionNumber, Worker};
+use records::rested;
+use trie::{Climb, Held, NodeNumber, Phase, Query, Standing, Update, VersionNumber, Worker};
 
-// The phases of a worker, the first word of its record.
-const IDLE_PHASE: u64 = 0;
+// The phases of a worker as C has them, the first word of its record. `Phase` is the enum of them, so that none stands between it and the numbers.
+pub(crate) const IDLE_PHASE: u64 = 0;
 
 pub(crate) const READ_PHASE: u64 = 1;
 
@@ -25,155 +27,111 @@ pub(crate) const RANK_PHASE: u64 = 6;
 
 pub(crate) const SELECT_PHASE: u64 = 7;
 
-#[derive(Clone, Copy)]
-pub enum Record {
-    Not,
-    Is(Worker),
-}
-
-#[derive(Clone, Copy)]
-pub enum Refresh {
-    Not,
-    Is(Held),
-}
-
-fn in_phase(phase: Phase) -> Record
-    ensures { result ≡ in_phase phase }
-{
-    Record::Is(Worker { phase: phase })
-}
-
 // Whether all words from the one at `from` on are 0.
-fn is_bare(words: [u64; RECORD_WORDS], from: usize) -> bool
-    ensures { result ≡ bare words from }
+fn is_bare(words: &[u64; RECORD_WORDS], from: usize) -> bool
+    requires { from ≤ record_words }
+    ensures { result ≡ bare words.now from }
 {
-    let mut i = from;
-    while i < RECORD_WORDS {
-        if words[i] != 0 {
-            return false;
-        }
-        i += 1;
-    }
-    true
+    words[from..].iter().all(|&word| word == 0)
 }
 
-fn standing(depth: u64, version: u64) -> Standing
-    ensures { result ≡ standing_of depth version }
+// No branch hangs on which of the two a word is: nothing foretells that.
+#[tactic(auto, unfolding(crate::specs::Reading::flag_of))]
+fn flag(word: u64) -> Option<bool>
+    ensures { result ≡ flag_of word }
 {
-    Standing {
-        depth: depth,
-        version: VersionNumber(version),
-    }
+    (word <= 1).then_some(word == 1)
 }
 
 // What a refresh has read: those of the three versions that it has not read are 0.
-fn refresh_of(read: u64, v: u64, l: u64, r: u64) -> Refresh
+#[tactic(auto, unfolding(crate::specs::Reading::refresh_of))]
+fn refresh_of(read: u64, v: u64, l: u64, r: u64) -> Option<Held>
     ensures { result ≡ refresh_of read v l r }
 {
-    if read == 3 {
-        return Refresh::Is(Held::Both(VersionNumber(v), VersionNumber(l), VersionNumber(r)));
-    }
-    if (read == 2) & (r == 0) {
-        return Refresh::Is(Held::Left(VersionNumber(v), VersionNumber(l)));
-    }
-    if (read == 1) & ((l == 0) & (r == 0)) {
-        return Refresh::Is(Held::Node(VersionNumber(v)));
-    }
-    if (read == 0) & ((v == 0) & ((l == 0) & (r == 0))) {
-        return Refresh::Is(Held::Nothing);
-    }
-    Refresh::Not
-}
-
-fn climbing(climb: Climb, refresh: Refresh) -> Record
-    ensures { result ≡ climbing climb refresh }
-{
-    match refresh {
-        Refresh::Not => Record::Not,
-        Refresh::Is(held) => in_phase(Phase::Refresh(climb, held)),
+    match [read, v, l, r] {
+        [0, 0, 0, 0] => Some(Held::Nothing),
+        [1, _, 0, 0] => Some(Held::Node(VersionNumber(v))),
+        [2, _, _, 0] => Some(Held::Left(VersionNumber(v), VersionNumber(l))),
+        [3, _, _, _] => Some(Held::Both(VersionNumber(v), VersionNumber(l), VersionNumber(r))),
+        _ => None,
     }
 }
 
-fn climb_of(update: Update, words: [u64; RECORD_WORDS]) -> Record
-    ensures { result ≡ climb_of update words }
+#[tactic(auto, unfolding(crate::specs::Reading::climb_of))]
+fn climb_of(update: Update, words: &[u64; RECORD_WORDS]) -> Option<Worker>
+    ensures { result ≡ climb_of update words.now }
 {
-    let yes = words[4];
-    let second = words[6];
-    if (1 < yes) | (1 < second) {
-        return Record::Not;
-    }
-    climbing(
-        Climb {
-            update: update,
-            yes: yes == 1,
-            node: NodeNumber(words[5]),
-            second: second == 1,
-            made: words[7],
-        },
-        refresh_of(words[8], words[9], words[10], words[11]),
-    )
-}
-
-fn update_in(said: MaybeUpdate, words: [u64; RECORD_WORDS]) -> Record
-    ensures { result ≡ update_in said words }
-{
-    let MaybeUpdate::Is(update) = said else {
-        return Record::Not;
+    let climb = Climb {
+        update: update,
+        yes: flag(words[4])?,
+        node: NodeNumber(words[5]),
+        second: flag(words[6])?,
+        made: words[7],
     };
-    if words[0] == CLIMB_PHASE {
-        return climb_of(update, words);
-    }
-    if (words[0] == SWAP_PHASE) & is_bare(words, 5) {
-        return in_phase(Phase::Swap(update, VersionNumber(words[4])));
-    }
-    if (words[0] == READ_PHASE) & is_bare(words, 4) {
-        return in_phase(Phase::Read(update));
-    }
-    Record::Not
+    let held = refresh_of(words[8], words[9], words[10], words[11])?;
+    Some(Worker {
+        phase: Phase::Refresh(climb, held),
+    })
 }
 
-fn ask_in(said: MaybeQuery, words: [u64; RECORD_WORDS]) -> Record
-    ensures { result ≡ ask_in said words }
+#[tactic(auto, unfolding(crate::specs::Reading::update_in))]
+fn update_in(update: Update, words: &[u64; RECORD_WORDS]) -> Option<Worker>
+    ensures { result ≡ update_in update words.now }
 {
-    let MaybeQuery::Is(query) = said else {
-        return Record::Not;
+    match words[0] {
+        READ_PHASE if is_bare(words, 4) => Some(Worker {
+            phase: Phase::Read(update),
+        }),
+        SWAP_PHASE if is_bare(words, 5) => Some(Worker {
+            phase: Phase::Swap(update, VersionNumber(words[4])),
+        }),
+        CLIMB_PHASE => climb_of(update, words),
+        _ => None,
+    }
+}
+
+#[tactic(auto, unfolding(crate::specs::Reading::ask_in))]
+fn ask_in(query: Query, words: &[u64; RECORD_WORDS]) -> Option<Worker>
+    ensures { result ≡ ask_in query words.now }
+{
+    is_bare(words, 3).then_some(Worker {
+        phase: Phase::Ask(query),
+    })
+}
+
+#[tactic(auto, unfolding(crate::specs::Reading::query_in))]
+fn query_in(words: &[u64; RECORD_WORDS]) -> Option<Worker>
+    ensures { result ≡ query_in words.now }
+{
+    let at = Standing {
+        depth: words[2],
+        version: VersionNumber(words[3]),
     };
-    if is_bare(words, 3) {
-        return in_phase(Phase::Ask(query));
-    }
-    Record::Not
+    let phase = match words[0] {
+        FIND_PHASE if is_bare(words, 4) => Phase::Find(words[1], at),
+        RANK_PHASE if is_bare(words, 6) => Phase::Rank(words[1], at, words[4], Energy(words[5])),
+        SELECT_PHASE if is_bare(words, 6) => Phase::Select(
+            words[1],
+            at,
+            NodeNumber(words[4]),
+            words[5],
+        ),
+        _ => return None,
+    };
+    Some(Worker { phase: phase })
 }
 
-fn query_in(words: [u64; RECORD_WORDS]) -> Record
-    ensures { result ≡ query_in words }
-{
-    let at = standing(words[2], words[3]);
-    if (words[0] == FIND_PHASE) & is_bare(words, 4) {
-        return in_phase(Phase::Find(words[1], at));
-    }
-    if (words[0] == RANK_PHASE) & is_bare(words, 6) {
-        return in_phase(Phase::Rank(words[1], at, words[4], Energy(words[5])));
-    }
-    if (words[0] == SELECT_PHASE) & is_bare(words, 6) {
-        return in_phase(Phase::Select(words[1], at, NodeNumber(words[4]), words[5]));
-    }
-    Record::Not
-}
-
-pub(crate) fn record_of(words: [u64; RECORD_WORDS]) -> Record
+#[tactic(auto, unfolding(crate::specs::Reading::record_of))]
+pub(crate) fn record_of(words: [u64; RECORD_WORDS]) -> Option<Worker>
     ensures { result ≡ record_of words }
 {
-    if words[0] == IDLE_PHASE {
-        if is_bare(words, 1) {
-            return in_phase(Phase::Idle);
-        }
-        return Record::Not;
+    match words[0] {
+        IDLE_PHASE => is_bare(&words, 1).then_some(rested()),
+        READ_PHASE | SWAP_PHASE | CLIMB_PHASE => update_in(
+            update_of(words[1], words[2], words[3])?,
+            &words,
+        ),
+        ASK_PHASE => ask_in(query_of(words[1], words[2])?, &words),
+        _ => query_in(&words),
     }
-    if words[0] <= CLIMB_PHASE {
-        return update_in(update_of(words[1], words[2], words[3]), words);
-    }
-    if words[0] == ASK_PHASE {
-        return ask_in(query_of(words[1], words[2]), words);
-    }
-    query_in(words)
 }

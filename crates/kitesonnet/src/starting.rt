@@ -8,10 +8,11 @@ ghost use Rattle.kitesonnet.specs.Calls.{lent, back, kite_start_of};
 ghost use Rattle.kitesonnet.specs.OneRecord.{begins, begun_in, starts_in};
 
 use crate::RECORD_WORDS;
-use crate::operations::{MaybeOperation, operation_of};
+use crate::operations::operation_of;
 use crate::promising::promised_in;
-use crate::seats::{put_record, record_at, worker_of};
+use crate::seats::{put_record, record_at};
 use judging::judge;
+use records::rested;
 use trie::{Accepted, Begun, Operation};
 
 // An accepted start is recorded; a refused one writes nothing.
@@ -42,7 +43,8 @@ fn start_seated(
     ensures { begins result board.new ≡ starts_in n w i o nodes.now versions.now board.old }
 {
     let sum = promised_in(tables::height(n) + 1, w, board);
-    let own = worker_of(record_at(board, i));
+    // Words that are no record stand for an idle one, so that 5 is not given for them: 9 is.
+    let own = record_at(board, i).unwrap_or(rested());
     let begun = steps::start_record(n, o, sum, own, nodes, versions);
     record_begun(begun, i, board)
 }
@@ -63,7 +65,7 @@ pub extern "C" fn kite_start(
     ensures { back result (lent nodes.now versions.now board.new)
         ≡ kite_start_of n w i kind first second (lent nodes.now versions.now board.old) }
 {
-    let MaybeOperation::Is(o) = operation_of(kind, first, second) else {
+    let Some(o) = operation_of(kind, first, second) else {
         return 10;
     };
     let refusal = judge(

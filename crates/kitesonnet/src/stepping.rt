@@ -6,7 +6,6 @@ ghost use Rattle.kitesonnet.specs.Calls.{lent, back, answered, kite_step_of};
 ghost use Rattle.kitesonnet.specs.OneRecord.{moves, moves_in, lost_in, steps_at};
 
 use crate::answers::{ON_KIND, put_answer, put_value};
-use crate::reading::Record;
 use crate::seats::{put_record, record_at};
 use crate::{ANSWER_WORDS, RECORD_WORDS};
 use judging::judge;
@@ -58,7 +57,7 @@ fn step_seated(
     ensures { answered (back result (lent nodes.new versions.new board.new)) answer.new
         ≡ steps_at n i (lent nodes.old versions.old board.old) answer.old }
 {
-    let Record::Is(own) = record_at(board, i) else {
+    let Some(own) = record_at(board, i) else {
         return refuse_lost(n, nodes, versions);
     };
     let moved = step_record(n, own, nodes, versions);

@@ -1,22 +1,17 @@
--- `kitesonnet::reading::is_bare` meets its contract. The numbers passed are all 0.
+-- `kitesonnet::reading::is_bare` meets its contract: its closure is the test that `all_zero` makes of each word.
 -- Assumes nothing.
-use mathlib.Core.Path.{refl, sym, ◌∙◌}
-use native.Mathlib.Omega.{arith}
-use borrow.Author.Rules.{rules}
-use Rattle.kitesonnet.proofs.Places.{bare_on, bare_off, bare_end}
+use Rattle.std.proofs.Common.{rules, tests, arith, ap, ◌∙◌, length-drop}
+use Rattle.std.specs.Prelude.{ℕ, ◌-◌, eqb, take, drop}
+use Rattle.std.proofs.lemmas.List.{take_all}
+use Rattle.std.proofs.lemmas.Iterator.{YieldsList-from_slice}
+use Rattle.std.proofs.lemmas.Iterator.Search.{all_from_yields_List}
+use Rattle.kitesonnet.specs.Reading.{all_zero}
+use Rattle.kitesonnet.specs.Seats.{record_words}
 use Rattle.kitesonnet.proofs.reading.is_bare.Goals as goal
 
-pub loop-i-init : goal.loop-i-init
-loop-i-init c = (search rules, refl)
-
-pub returns-then-words-i-ne0 : goal.returns-then-words-i-ne0
-returns-then-words-i-ne0 c =
-    sym (c.loop-i.invariant.1 ∙ bare_off c.args.words c.loop-i.i (omega (arith, c.loop-i.invariant.0, c.loop-i-test.true)) c.if-words-i-ne0.true)
-
-pub loop-i-preserved : goal.loop-i-preserved
-loop-i-preserved c =
-    (c.loop-i.invariant.0, c.loop-i.invariant.1 ∙ bare_on c.args.words c.loop-i.i (omega (arith, c.loop-i.invariant.0, c.loop-i-test.true)) c.if-words-i-ne0.false)
-
 pub returns : goal.returns
+unfolding all_zero
 returns c =
-    sym (c.loop-i.invariant.1 ∙ bare_end c.args.words c.loop-i.i (omega (arith, c.loop-i.invariant.0, c.loop-i-test.false)))
+    let rest = drop c.args.from c.args.words.now in
+    all_from_yields_List (λ (word : ℕ). eqb word 0) _ _ _ c.all.ensures.ran (YieldsList-from_slice (take (record_words - c.args.from) rest) cc) (λ x b q k. search (rules, tests))
+    ∙ ap all_zero (take_all (record_words - c.args.from) rest (omega (arith, length-drop c.args.from c.args.words.now, c.told-words)))

@@ -9,7 +9,7 @@ returns-in_default c = no_operation_lem _ _ _ _ _ _ _ _ _ _ c.operation_of.ensur
 
 pub returns-then-refusal-ne0 : goal.returns-then-refusal-ne0
 returns-then-refusal-ne0 c =
-    start_judged _ _ _ _ _ _ _ _ _ _ _ _ c.operation_of.ensures c.in-Is.is c.judge-refusal.ensures c.if-refusal-ne0.true
+    start_judged _ _ _ _ _ _ _ _ _ _ _ _ c.operation_of.ensures c.in-Some.is c.judge-refusal.ensures c.if-refusal-ne0.true
 
 pub start_seated-requires : goal.start_seated-requires
 start_seated-requires c =
@@ -19,5 +19,5 @@ start_seated-requires c =
 
 pub returns : goal.returns
 returns c =
-    start_comes _ _ _ _ _ _ _ _ _ _ _ _ _ c.operation_of.ensures c.in-Is.is c.judge-refusal.ensures c.if-refusal-ne0.false
+    start_comes _ _ _ _ _ _ _ _ _ _ _ _ _ c.operation_of.ensures c.in-Some.is c.judge-refusal.ensures c.if-refusal-ne0.false
     c.start_seated.ensures

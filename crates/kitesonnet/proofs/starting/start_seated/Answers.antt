@@ -1,5 +1,7 @@
 -- `kitesonnet::starting::start_seated` meets its contract.
 -- Assumes nothing.
+use Rattle.std.proofs.Common.{ap, ◌∙◌}
+use Rattle.std.specs.Prelude.{unwrap_or}
 use native.Mathlib.Omega.{arith}
 use lib.Count.{trailing_le}
 use Rattle.trie.specs.Size.{height_of}
@@ -25,5 +27,5 @@ record_begun-requires c =
 
 pub returns : goal.returns
 returns c =
-    begun_so _ _ _ _ _ _ _ _ _ _ _ _ _ c.height.ensures c.promised_in-sum.ensures c.record_at.ensures c.worker_of-own.ensures c.start_record-begun.ensures
+    begun_so _ _ _ _ _ _ _ _ _ _ _ _ _ c.height.ensures c.promised_in-sum.ensures c.record_at.ensures (c.unwrap_or-own.ensures ∙ ap (unwrap_or c.record_at.result) c.rested.ensures) c.start_record-begun.ensures
     c.record_begun.ensures

@@ -10,5 +10,5 @@ returns-in_default c =
 
 pub returns : goal.returns
 returns c =
-    step_moves c.args.n c.args.i c.args.nodes.now c.args.versions.now c.args.board.now c.args.answer.now c.record_at.result c.in-Is.own
-    c.step_record-moved.result _ _ _ c.record_at.ensures c.in-Is.is c.step_record-moved.ensures c.record_moved.ensures
+    step_moves c.args.n c.args.i c.args.nodes.now c.args.versions.now c.args.board.now c.args.answer.now c.record_at.result c.in-Some.own
+    c.step_record-moved.result _ _ _ c.record_at.ensures c.in-Some.is c.step_record-moved.ensures c.record_moved.ensures

@@ -1,6 +1,0 @@
--- `kitesonnet::operations::from_update` meets its contract.
--- Assumes nothing.
-use Rattle.kitesonnet.proofs.operations.from_update.Goals as goal
-
-pub returns-in-Is : goal.returns-in-Is
-returns-in-Is c = simp c.in-Is.is
