@@ -2,13 +2,13 @@
 // The independent program second/energies.rs writes the same from the rule, and the gate compares the two.
 #![tactic(auto)]
 
-use decibel::{Converted, Level};
+use decibel::{Energy, Level, TooLoud};
 use std::io;
 
-fn write_answer(rt: &impl Print, answer: Converted) -> io::Result<()> {
+fn write_answer(rt: &impl Print, answer: Result<Energy, TooLoud>) -> io::Result<()> {
     match answer {
-        Converted::Is(energy) => print!(rt; "{}", energy.0),
-        Converted::TooLoud => print!(rt; "refused 7"),
+        Ok(energy) => print!(rt; "{}", energy.0),
+        Err(TooLoud) => print!(rt; "refused 7"),
     }
 }
 
