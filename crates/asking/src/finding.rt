@@ -35,7 +35,7 @@ pub fn find(b: Bounds, k: u64, s: Standing, versions: &[u64]) -> Result<Plan, Da
     if b.cells <= k {
         return Err(Damage);
     }
-    let right = turns_right(b, k, s.depth);
     let f = look(b, s, versions)?;
+    let right = turns_right(b, k, s.depth);
     find_seen(k, right, f)
 }

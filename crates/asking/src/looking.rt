@@ -39,12 +39,12 @@ pub(crate) fn look(b: Bounds, s: Standing, versions: &[u64]) -> Result<Fork, Dam
     }
 }
 
-// Whether the way to cell k turns right at this depth: a child's leaves are one level fewer below.
+// Whether the way to cell k turns right at this depth, where there are levels below.
 pub(crate) fn turns_right(b: Bounds, k: u64, depth: u64) -> bool
+    requires { depth < b.height }
     ensures { result ≡ turns_right b k depth }
 {
-    let below = b.height.saturating_sub(depth).saturating_sub(1);
-    ancestor(k, below) % 2 == 1
+    ancestor(k, b.height - (depth + 1)) % 2 == 1
 }
 
 pub(crate) fn towards(right: bool, f: Fork) -> Child

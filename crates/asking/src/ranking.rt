@@ -68,7 +68,7 @@ pub fn rank(
     if !((k < b.cells) & ((count <= b.cells) & (energy.0 <= b.energy))) {
         return Err(Damage);
     }
-    let right = turns_right(b, k, s.depth);
     let f = look(b, s, versions)?;
+    let right = turns_right(b, k, s.depth);
     rank_seen(b, k, right, count, energy.0, f)
 }

@@ -11,13 +11,6 @@ use sound::add_within;
 use tables::ancestor;
 use trie::{Answer, Bounds, Damage, Fork, NodeNumber, Phase, Plan, Standing, TALLEST};
 
-// The answer at leaf x.
-fn cell_at(b: Bounds, x: u64) -> Answer
-    ensures { result ≡ Answer.Cell (x - b.cells) }
-{
-    Answer::Cell(x.saturating_sub(b.cells))
-}
-
 fn select_next(
     b: Bounds,
     j: u64,
@@ -29,23 +22,19 @@ fn select_next(
     ensures { result ≡ select_next b j next x passed last }
 {
     if last {
-        answer(cell_at(b, x))
+        answer(Answer::Cell(x.saturating_sub(b.cells)))
     } else {
         go_on(Phase::Select(j, next, NodeNumber(x), passed))
     }
 }
 
-// The left side has too few: right, and its count is passed. The sum is judged before all else, since the last step forms it too.
-// That step answers here, so that the other, which goes on, is made for no last step: one form for both made every step slower.
+// The left side has too few: right, and its count is passed. The sum is judged also at the last step, which forms it too.
 fn select_right(b: Bounds, j: u64, x: u64, passed: u64, f: Fork) -> Result<Plan, Damage>
     ensures { result ≡ select_right b j x passed f }
 {
     let left_behind = f.left.version;
     let more = add_within(passed, left_behind.count, b.cells)?;
-    if f.last {
-        return answer(cell_at(b, x));
-    }
-    go_on(Phase::Select(j, f.right.standing, NodeNumber(x), more))
+    select_next(b, j, f.right.standing, x, more, f.last)
 }
 
 fn select_seen(b: Bounds, j: u64, x: u64, passed: u64, f: Fork) -> Result<Plan, Damage>
