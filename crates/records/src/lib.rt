@@ -74,8 +74,8 @@ fn is_above(levels: u64, y: u64, x: u64) -> bool
     requires { 1 ≤ y }
     ensures { result ≡ above levels y x }
 {
-    let up = ((63 + u64::leading_zeros(x) - u64::leading_zeros(y)) % 64) as u64;
-    (up < levels) & (y / 2 >> up == x)
+    let up = (63 + x.leading_zeros() - y.leading_zeros()) % 64;
+    (u64::from(up) < levels) & (y / 2 >> up == x)
 }
 
 // No climb fits where there are more cells than in any tree.
@@ -85,7 +85,7 @@ pub fn climb_fits(b: Bounds, c: Climb) -> bool
 {
     b.cells <= MOST_CELLS
         && update_fits(b.cells, c.update)
-        && is_above(b.height, b.cells + cell(c.update), c.node.0) & (c.made <= b.share)
+        && (is_above(b.height, b.cells + cell(c.update), c.node.0) & (c.made <= b.share))
 }
 
 // Whether the worker has an update under way.

@@ -9,14 +9,14 @@ use trie::MOST_CELLS;
 pub fn is_allowed(n: u64) -> bool
     ensures { result ≡ allowed n }
 {
-    (u64::count_ones(n) == 1) & ((2 <= n) & (n <= MOST_CELLS))
+    (n.count_ones() == 1) & ((2 <= n) & (n <= MOST_CELLS))
 }
 
 #[tactic(auto, unfolding(trie::specs::Size::height_of))]
 pub fn height(n: u64) -> u64
     ensures { result ≡ height_of n }
 {
-    u64::trailing_zeros(n) as u64
+    u64::from(n.trailing_zeros())
 }
 
 // The ancestor of x that many levels up, and 0 above the root.

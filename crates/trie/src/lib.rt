@@ -158,7 +158,7 @@ impl From<Damage> for Refusal {
     ghost from_gives = { λ damage refusal. refusal ≡ Damaged };
 
     fn from(_damage: Damage) -> Refusal {
-        Refusal::Damaged
+        Self::Damaged
     }
 }
 
@@ -166,7 +166,7 @@ impl From<TooLoud> for Refusal {
     ghost from_gives = { λ loud refusal. refusal ≡ Argument };
 
     fn from(_loud: TooLoud) -> Refusal {
-        Refusal::Argument
+        Self::Argument
     }
 }
 

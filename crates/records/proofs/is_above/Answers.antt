@@ -14,4 +14,4 @@ pub overflow_sub-up : goal.overflow_sub-up
 overflow_sub-up c = omega (arith, half_zeros c.args.y c.requires c.ranges.y.fits, leading_le 64 (c.args.y / 2))
 
 pub returns : goal.returns
-returns c = above_drop _ _ _ c.requires c.ranges.y.fits c.ranges.x.fits
+returns c = rw c.from.ensures (above_drop _ _ _ c.requires c.ranges.y.fits c.ranges.x.fits)
