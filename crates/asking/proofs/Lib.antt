@@ -1,4 +1,3 @@
--- Laws by which the walks of a query's functions end:
--- first the look at one place, and then the whole ways down that are made of such looks.
-pub mod Looks
-pub mod Walks
+-- What Select needs of its depth.
+-- It speaks of numbers alone, not of tables or versions.
+pub mod Depths

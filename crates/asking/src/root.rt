@@ -3,13 +3,13 @@
 ghost use Rattle.std.specs.Prelude.{◌≡◌};
 ghost use Rattle.trie.specs.Asking.{first_of, ask_of};
 
-use crate::plans::go_on;
+use crate::plans::{answer, go_on};
 use decibel::Energy;
 use records::query_fits;
 use sound::is_sound_in;
 use tables::{load, word};
 use trie::{
-    Answer, Bounds, Damage, Next, NodeNumber, Phase, Plan, Query, Standing, Version, VersionNumber,
+    Answer, Bounds, Damage, NodeNumber, Phase, Plan, Query, Standing, Version, VersionNumber,
 };
 
 fn first(q: Query, v: VersionNumber, r: Version) -> Result<Plan, Damage>
@@ -19,22 +19,21 @@ fn first(q: Query, v: VersionNumber, r: Version) -> Result<Plan, Damage>
         depth: 0,
         version: v,
     };
-    let count = r.count;
-    let energy = r.energy;
     match q {
         Query::Find(k) => go_on(Phase::Find(k, root)),
         Query::Select(j) => {
-            if count < j {
-                Ok(Plan::Keep(Next::Done(Answer::None)))
+            if r.count < j {
+                answer(Answer::None)
             } else {
                 go_on(Phase::Select(j, root, NodeNumber(1), 0))
             }
         }
         Query::Rank(k) => go_on(Phase::Rank(k, root, 0, Energy(0))),
-        Query::Total => Ok(Plan::Keep(Next::Done(Answer::Sums(count, energy)))),
+        Query::Total => answer(Answer::Sums(r.count, r.energy)),
     }
 }
 
+#[tactic(auto, unfolding(trie::specs::Asking::ask_of))]
 pub fn ask(b: Bounds, q: Query, nodes: &[u64], versions: &[u64]) -> Result<Plan, Damage>
     ensures { result ≡ ask_of b q nodes.now versions.now }
 {

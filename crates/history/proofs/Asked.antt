@@ -1,6 +1,6 @@
 -- The step of a query's record: it changes no table, and goes on, or answers as the book did when the query read the root.
 -- Assumes nothing.
-use Rattle.std.specs.Prelude.{◌≡◌, refl, true, List, [], ℕ, suc, ◌*◌, ◌-◌, ◌^◌, ◌≤◌, get_or}
+use Rattle.std.specs.Prelude.{◌≡◌, refl, true, List, [], ℕ, suc, ◌*◌, ◌-◌, ◌^◌, ◌≤◌, get_or, Result}
 use Rattle.std.proofs.Math.Path.{sym, ap, subst}
 use Rattle.std.proofs.Common.{◌∙◌}
 use native.Mathlib.Omega.{arith}
@@ -10,6 +10,7 @@ use Rattle.trie.specs.declared.Query.{Query}
 use Rattle.trie.specs.declared.Operation.{Operation}
 use Rattle.trie.specs.declared.Phase.{Phase}
 use Rattle.trie.specs.declared.Plan.{Plan}
+use Rattle.trie.specs.declared.Damage.{Damage}
 use Rattle.trie.specs.declared.Version.{Version}
 use Rattle.trie.specs.declared.Worker.{Worker}
 use Rattle.trie.specs.Size.{allowed, height_of}
@@ -66,7 +67,7 @@ total_nowhere u = by u refl
 
 module _ (n : ℕ) {G : Shared} {nodes versions : List ℕ} (size : allowed n ≡ true) (room : roomy n nodes versions ≡ true) (low : 2 * n - 1 ≤ used_of nodes) (top : used_of nodes ≤ room_of versions)
     (v : View (height_of n) G nodes versions) where
-  carry_turns : {B : Book} {e : ℕ} {q : Query} {plan : Plan} (w : Worker) → Walks (version_of versions) (used_of nodes) B (height_of n) e q plan → Turns G B (height_of n) q nodes versions e (carry_of plan w nodes versions)
+  carry_turns : {B : Book} {e : ℕ} {q : Query} {plan : Result Plan Damage} (w : Worker) → Walks (version_of versions) (used_of nodes) B (height_of n) e q plan → Turns G B (height_of n) q nodes versions e (carry_of plan w nodes versions)
   unfolding carry_of
   carry_turns {B} {e} {q} w (ends a) =
       subst (λ (x : Value). Turns G B (height_of n) q nodes versions 0 (record { told = gives (done x); worker = idle; nodes = nodes; versions = versions })) (sym a) answers
@@ -109,14 +110,14 @@ module _ (n : ℕ) {G : Shared} {nodes versions : List ℕ} (size : allowed n �
         at_least (Query.Select j) = omega arith
         at_least Query.Total = omega arith
 
-        on_the_way : (q : Query) {e : ℕ} {plan : Plan} → e ≡ height_of n → Walks (version_of versions) (used_of nodes) (view (at G []).reached) (height_of n) e q plan → suc e ≤ most_steps (height_of n) (Operation.Query q)
+        on_the_way : (q : Query) {e : ℕ} {plan : Result Plan Damage} → e ≡ height_of n → Walks (version_of versions) (used_of nodes) (view (at G []).reached) (height_of n) e q plan → suc e ≤ most_steps (height_of n) (Operation.Query q)
         on_the_way (Query.Find k) e u = omega arith
         on_the_way (Query.Rank k) e u = omega arith
         on_the_way (Query.Select j) e u = omega arith
         on_the_way Query.Total e (ends a) = absurd (omega (arith, (sized n size).least))
         on_the_way Query.Total e (goes u) = absurd (total_nowhere u)
 
-        by : (q : Query) {plan : Plan} → First (gauge n nodes versions size) versions (view (at G []).reached) q plan
+        by : (q : Query) {plan : Result Plan Damage} → First (gauge n nodes versions size) versions (view (at G []).reached) q plan
             → (e : ℕ) × (suc e ≤ most_steps (height_of n) (Operation.Query q)) × Turns G (view (at G []).reached) (height_of n) q nodes versions e (carry_of plan (worker (Phase.Ask q)) nodes versions)
         by q (at_once u) = (0, at_least q, carry_turns (worker (Phase.Ask q)) u)
         by q (on_way u) = (height_of n, on_the_way q refl u, carry_turns (worker (Phase.Ask q)) u)

@@ -1,10 +1,9 @@
 -- An accepted update never lacks a version: what is used and what is promised are together within the room, at every moment.
 -- Assumes nothing.
-use Rattle.std.specs.Prelude.{◌≡◌, refl, Bool, true, false, List, [], ◌∷◌, ℕ, suc, ◌+◌, ◌*◌, ◌-◌, ◌≤◌, ◌<◌, length, get_or, set}
+use Rattle.std.specs.Prelude.{◌≡◌, refl, Bool, true, false, List, [], ◌∷◌, ℕ, suc, ◌+◌, ◌*◌, ◌-◌, ◌≤◌, ◌<◌, length, get_or, set, Result}
 use Rattle.std.proofs.Math.Decide.{ℕ_discrete}
 use Rattle.std.proofs.Common.{le_refl, arith, le-leb}
 use Rattle.trie.specs.declared.Phase.{Phase}
-use Rattle.trie.specs.declared.Promised.{Promised}
 use Rattle.trie.specs.declared.Worker.{Worker as Record}
 use Rattle.trie.specs.Size.{allowed, height_of}
 use Rattle.trie.proofs.SizeLaws.{sized}
@@ -34,7 +33,7 @@ owed_by h (swapping o v) = h + 1
 owed_by h (climbing c st) = h + 1 - c.made
 owed_by h (answered o r) = 0
 
-resting_owed : (share : ℕ) {p : Phase} → Resting p → owed_phase share p ≡ Promised.Of 0
+resting_owed : (share : ℕ) {p : Phase} → Resting p → owed_phase share p ≡ Result.Ok 0
 resting_owed share rests = refl
 resting_owed share asks = refl
 resting_owed share finds = refl
@@ -50,7 +49,7 @@ missed_owed h false c = omega arith
 missed_owed h true c = up_owed h c.op c.res c.made c.node
 
 module _ (h : ℕ) (weight : ℕ → ℕ) (G : Shared) where
-  pub shown_owed : (W : Worker) (p : Phase) → WorkerOk h weight G W → Shown W p → owed_phase (h + 1) p ≡ Promised.Of (owed_by h W)
+  pub shown_owed : (W : Worker) (p : Phase) → WorkerOk h weight G W → Shown W p → owed_phase (h + 1) p ≡ Result.Ok (owed_by h W)
   shown_owed resting p ok s = resting_owed (h + 1) s
   shown_owed (reading o) p ok s = rw s
   shown_owed (swapping o v) p ok s = rw s
@@ -92,7 +91,7 @@ module _ (h : ℕ) (weight : ℕ → ℕ) (G : Shared) where
 
 pub record Promise (n w : ℕ) (nodes versions : List ℕ) (board : List Record) : Type 0 where
   pub promised : ℕ
-  pub is : promised_of (height_of n + 1) w board ≡ Promised.Of promised
+  pub is : promised_of (height_of n + 1) w board ≡ Result.Ok promised
   pub room : used_of nodes + promised ≤ room_of versions
   pub low : 2 * n - 1 ≤ used_of nodes
 
@@ -113,7 +112,7 @@ open_promise n w nodes versions board size room l =
 
 module _ (n w : ℕ) {nodes versions : List ℕ} {board : List Record} (i : ℕ) (inside : i < w) (long : w ≤ length board) (p : Promise n w nodes versions board) where
   -- one record changes: its part c comes in the place of the part a
-  pub change_promise : {nodes' versions' : List ℕ} (r : Record) (a c : ℕ) → owed_phase (height_of n + 1) (get_or board i idle).phase ≡ Promised.Of a → owed_phase (height_of n + 1) r.phase ≡ Promised.Of c
+  pub change_promise : {nodes' versions' : List ℕ} (r : Record) (a c : ℕ) → owed_phase (height_of n + 1) (get_or board i idle).phase ≡ Result.Ok a → owed_phase (height_of n + 1) r.phase ≡ Result.Ok c
       → used_of nodes' + (p.promised + c) ≤ room_of versions + a → used_of nodes ≤ used_of nodes' → room_of versions' ≡ room_of versions → Promise n w nodes' versions' (set board i r)
   change_promise r a c e f fits grows same =
       let q = promised_set (height_of n + 1) w board i p.promised a c r inside long p.is e f in

@@ -1,6 +1,6 @@
 -- A step of an update on the tables is the machine's step: no test fails, and the tables and the record afterwards show what the machine has then.
 -- Assumes nothing.
-use Rattle.std.specs.Prelude.{◌≡◌, Bool, ◌&&◌, not, List, [], ◌∷◌, ℕ, suc, ◌+◌, ◌*◌, ◌-◌, ◌^◌, ◌≤◌, ◌<◌, leb, length, get_or, set}
+use Rattle.std.specs.Prelude.{◌≡◌, Bool, ◌&&◌, not, List, [], ◌∷◌, ℕ, suc, ◌+◌, ◌*◌, ◌-◌, ◌^◌, ◌≤◌, ◌<◌, leb, length, get_or, set, Result}
 use Rattle.std.proofs.Math.Path.{refl, ap}
 use Rattle.std.proofs.Common.{sym, ap₂, ◌∙◌, subst, pow-suc, add-one, arith}
 use Rattle.std.proofs.Math.Bool.{true, false}
@@ -19,6 +19,7 @@ use Rattle.trie.specs.declared.Phase.{Phase}
 use Rattle.trie.specs.declared.Answer.{Answer}
 use Rattle.trie.specs.declared.Next.{Next}
 use Rattle.trie.specs.declared.Plan.{Plan}
+use Rattle.trie.specs.declared.Damage.{Damage}
 use Rattle.trie.specs.Choice.{pick}
 use Rattle.trie.specs.Size.{allowed, height_of}
 use Rattle.trie.proofs.SizeLaws.{sized, and_both}
@@ -27,7 +28,7 @@ use Rattle.trie.proofs.TableLaws.{roomy_nodes}
 use Rattle.trie.specs.Sound.{sound_in}
 use Rattle.trie.specs.Record.{leaf_of, cell_of, busy_phase}
 use Rattle.trie.specs.Values.{yes', no', Course, on, done}
-use Rattle.trie.specs.Leaf.{goes_on, marked, as_wanted, wanted, climbs_from, climbs, swapped, read_of, swap_of}
+use Rattle.trie.specs.Leaf.{goes_on, marked, as_wanted, wanted, climbs_from, climbs, swapped, read_of, swap_of, keep}
 use Rattle.trie.specs.Refreshing.{over_leaves, rises, sum_of, join_of, refresh_of}
 use Rattle.trie.specs.Stepping.{Stepped, plan_phase, plan_of, after_next, carry_of, step_record_of}
 use Rattle.history.proofs.Nodes.{Side, lo, hi, Node, below_length}
@@ -74,9 +75,9 @@ module _ (h : ℕ) where
     pub told : s.told ≡ told_of p.1
 
   -- a plan that does, once it is carried out
-  pub data Plays (p : Shared × Worker) (nodes versions : List ℕ) (plan : Plan) : Type 0 where
-    keeps : plan ≡ Plan.Keep (next_of p.1) → View h p.0 nodes versions → Plays p nodes versions plan
-    puts : (v : VersionNumber) (x : NodeNumber) (r : Version) → plan ≡ Plan.Put (next_of p.1) v x r → View h p.0 (set (set nodes x.0 v.0) 0 v.0) (version_put versions v r)
+  pub data Plays (p : Shared × Worker) (nodes versions : List ℕ) (plan : Result Plan Damage) : Type 0 where
+    keeps : plan ≡ keep (next_of p.1) → View h p.0 nodes versions → Plays p nodes versions plan
+    puts : (v : VersionNumber) (x : NodeNumber) (r : Version) → plan ≡ Result.Ok (Plan.Put (next_of p.1) v x r) → View h p.0 (set (set nodes x.0 v.0) 0 v.0) (version_put versions v r)
         → Plays p nodes versions plan
 
   after_follows : (G : Shared) (W : Worker) (nodes versions : List ℕ) → View h G nodes versions → Follows (G, W) (after_next (next_of W) nodes versions)
@@ -87,7 +88,7 @@ module _ (h : ℕ) where
   after_follows G (answered o true) nodes versions v = record { view = v; shown = refl; told = refl }
   after_follows G (answered o false) nodes versions v = record { view = v; shown = refl; told = refl }
 
-  pub plays_follows : (p : Shared × Worker) (nodes versions : List ℕ) (plan : Plan) (w : Rattle.trie.specs.declared.Worker.Worker) → Plays p nodes versions plan → Follows p (carry_of plan w nodes versions)
+  pub plays_follows : (p : Shared × Worker) (nodes versions : List ℕ) (plan : Result Plan Damage) (w : Rattle.trie.specs.declared.Worker.Worker) → Plays p nodes versions plan → Follows p (carry_of plan w nodes versions)
   unfolding carry_of
   plays_follows p nodes versions plan w (keeps e v) = rw e (after_follows p.0 p.1 nodes versions v)
   plays_follows p nodes versions plan w (puts n x r e v) = rw e (after_follows p.0 p.1 (set (set nodes x.0 n.0) 0 n.0) (version_put versions n r) v)
@@ -133,7 +134,7 @@ wanted_is (Update.Delete k) = refl
 module _ {h : ℕ} {G : Shared} {nodes versions : List ℕ} {b : Bounds} (v : View h G nodes versions) (closed : Closed G.ver G.used) (spots : (y : Node) → SpotOk h energy_of G y (at G y))
     (g : Gauge h (used_of nodes) (room_of versions) b) (tall : 1 ≤ h) (long : 2 * 2 ^ h ≤ length nodes) (spare : used_of nodes < room_of versions) where
   -- a swap that succeeds has room
-  swapped_is : (x : ℕ) (r : Version) (next : Next) → swapped b x r next ≡ Plan.Put next (record { 0 = b.used + 1 }) (record { 0 = x }) r
+  swapped_is : (x : ℕ) (r : Version) (next : Next) → swapped b x r next ≡ Result.Ok (Plan.Put next (record { 0 = b.used + 1 }) (record { 0 = x }) r)
   swapped_is x r next = rw (lt-ltb b.used b.room (omega (arith, g.used, g.room)))
 
   next_used : b.used + 1 ≡ used_of nodes + 1
@@ -159,9 +160,9 @@ module _ {h : ℕ} {G : Shared} {nodes versions : List ℕ} {b : Bounds} (v : Vi
         → Plays h (leaf_read h t G o) nodes versions (read_of b o.update nodes versions)
     unfolding read_of
     read_by true e =
-        keeps (rw (update_fits_lem g o known.fit, leaf_current_sound, e) (ap Plan.Keep (climbs_is false 0))) (view_spot v (cell h o) _ refl)
+        keeps (rw (update_fits_lem g o known.fit, leaf_current_sound, e) (ap keep (climbs_is false 0))) (view_spot v (cell h o) _ refl)
     read_by false e =
-        keeps (rw (update_fits_lem g o known.fit, leaf_current_sound, e) (ap (λ (n : ℕ). Plan.Keep (goes_on (Phase.Swap o.update (record { 0 = n })))) leaf_current)) (view_spot v (cell h o) _ refl)
+        keeps (rw (update_fits_lem g o known.fit, leaf_current_sound, e) (ap (λ (n : ℕ). keep (goes_on (Phase.Swap o.update (record { 0 = n })))) leaf_current)) (view_spot v (cell h o) _ refl)
 
     pub read_plays : Plays h (step_w h energy_of G (reading o)) nodes versions (read_of b o.update nodes versions)
     read_plays =
@@ -175,14 +176,14 @@ module _ {h : ℕ} {G : Shared} {nodes versions : List ℕ} {b : Bounds} (v : Vi
         puts (record { 0 = b.used + 1 }) (record { 0 = leaf_of b o.update }) (wanted o.update)
         (rw (update_fits_lem g o known.fit, leaf_sound_lem g energy_of energy_at_most versions (was_whole v closed spots (cell h o) 0 n leaf_level p.was), eq-eqb (get_or nodes (leaf_of b o.update) 0) n (leaf_current ∙ e))
         (swapped_is (leaf_of b o.update) (wanted o.update) (climbs b o.update true 1)
-        ∙ ap (λ (next : Next). Plan.Put next (record { 0 = b.used + 1 }) (record { 0 = leaf_of b o.update }) (wanted o.update)) (climbs_is true 1)))
+        ∙ ap (λ (next : Next). Result.Ok (Plan.Put next (record { 0 = b.used + 1 }) (record { 0 = leaf_of b o.update }) (wanted o.update))) (climbs_is true 1)))
         (subst (λ (x : ℕ). View h (leaf_try h energy_of (yes e) G o).0 (set (set nodes x (b.used + 1)) 0 (b.used + 1)) (version_put versions (record { 0 = b.used + 1 }) (wanted o.update)))
         (sym (leaf_number g o known.fit))
         (view_swap v (cell h o) (b.used + 1) (wanted o.update) _ _ _ (omega (arith, leaf_level)) long spare next_used (wanted_is o.update)))
     try_by n p (no d) =
         keeps
         (rw (update_fits_lem g o known.fit, leaf_sound_lem g energy_of energy_at_most versions (was_whole v closed spots (cell h o) 0 n leaf_level p.was), ne_eqb (get_or nodes (leaf_of b o.update) 0) n (λ q. d (sym leaf_current ∙ q)))
-        (ap Plan.Keep (climbs_is false 0)))
+        (ap keep (climbs_is false 0)))
         v
 
     pub try_plays : (n : ℕ) → LeafOk h energy_of G o n → Plays h (step_w h energy_of G (swapping o n)) nodes versions (swap_of b o.update (record { 0 = n }) nodes versions)
@@ -237,25 +238,25 @@ module _ {h : ℕ} {G : Shared} {nodes versions : List ℕ} {b : Bounds} (v : Vi
           puts (record { 0 = b.used + 1 }) (record { 0 = number c.node }) (sum_of (record { 0 = l }) (record { 0 = r }) (version_of versions l) (version_of versions r))
           (rw (sums_are w z, eq-eqb (get_or nodes (number c.node) 0) n (node_current ∙ e), lt-ltb c.made b.share (omega (arith, g.share)))
           (swapped_is (number c.node) _ _
-          ∙ ap (λ (next : Next). Plan.Put next (record { 0 = b.used + 1 }) (record { 0 = number c.node }) (sum_of (record { 0 = l }) (record { 0 = r }) (version_of versions l) (version_of versions r)))
+          ∙ ap (λ (next : Next). Result.Ok (Plan.Put next (record { 0 = b.used + 1 }) (record { 0 = number c.node }) (sum_of (record { 0 = l }) (record { 0 = r }) (version_of versions l) (version_of versions r))))
           (rises_is c (c.made + 1) c.node refl ∙ ap (λ (k : ℕ). next_of (go_up c.op c.res k c.node)) (add-one c.made))))
           (view_swap v c.node (b.used + 1) _ _ _ _ (omega arith) long spare next_used (join_is l r))
       join_by n l r s t m w z (no e) =
-          keeps (rw (sums_are w z, ne_eqb (get_or nodes (number c.node) 0) n (λ q. e (sym node_current ∙ q))) (ap Plan.Keep (missed_is c c.again refl))) v
+          keeps (rw (sums_are w z, ne_eqb (get_or nodes (number c.node) 0) n (λ q. e (sym node_current ∙ q))) (ap keep (missed_is c c.again refl))) v
 
       held_by : (st : Stage) → ClimbOk h energy_of G c st → Plays h (climb_step G c st) nodes versions (refresh_of b (climb_of c) (held_of st) nodes versions)
       unfolding refresh_of
       held_by nothing p =
-          keeps (rw (climb_fits_lem g energy_of G c nothing known p, reads_node) (ap (λ (n : ℕ). Plan.Keep (goes_on (Phase.Refresh (climb_of c) (Held.Node (record { 0 = n }))))) node_current)) v
+          keeps (rw (climb_fits_lem g energy_of G c nothing known p, reads_node) (ap (λ (n : ℕ). keep (goes_on (Phase.Refresh (climb_of c) (Held.Node (record { 0 = n }))))) node_current)) v
       held_by (at_node n) p =
           keeps
           (rw (climb_fits_lem g energy_of G c (at_node n) known p, holds_node p.stages, reads_left)
-          (ap (λ (l : ℕ). Plan.Keep (goes_on (Phase.Refresh (climb_of c) (Held.Left (record { 0 = n }) (record { 0 = l }))))) (current_left v c.node (omega arith))))
+          (ap (λ (l : ℕ). keep (goes_on (Phase.Refresh (climb_of c) (Held.Left (record { 0 = n }) (record { 0 = l }))))) (current_left v c.node (omega arith))))
           v
       held_by (at_left n l s) p =
           keeps
           (rw (climb_fits_lem g energy_of G c (at_left n l s) known p, holds_node p.stages.0, child_sound (saw lo p.stages.1), reads_right)
-          (ap (λ (r : ℕ). Plan.Keep (goes_on (Phase.Refresh (climb_of c) (Held.Both (record { 0 = n }) (record { 0 = l }) (record { 0 = r }))))) (current_right v c.node (omega arith))))
+          (ap (λ (r : ℕ). keep (goes_on (Phase.Refresh (climb_of c) (Held.Both (record { 0 = n }) (record { 0 = l }) (record { 0 = r }))))) (current_right v c.node (omega arith))))
           v
       held_by (at_both n l s r t) p =
           rw (climb_fits_lem g energy_of G c (at_both n l s r t) known p, holds_node p.stages.0, child_sound (saw lo p.stages.1), child_sound (saw hi p.stages.2))

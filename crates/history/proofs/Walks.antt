@@ -1,6 +1,6 @@
 -- A query under way: where it stands, what it has passed, and what is still to be walked; others' steps leave that as it is.
 -- Assumes nothing.
-use Rattle.std.specs.Prelude.{◌≡◌, ℕ, suc, ◌+◌, ◌*◌, ◌/◌, ◌^◌, ◌≤◌, ◌<◌}
+use Rattle.std.specs.Prelude.{◌≡◌, ℕ, suc, ◌+◌, ◌*◌, ◌/◌, ◌^◌, ◌≤◌, ◌<◌, Result}
 use Rattle.decibel.specs.Energy.{energy_of}
 use Rattle.decibel.specs.declared.Energy.{Energy}
 use Rattle.trie.specs.declared.NodeNumber.{NodeNumber}
@@ -11,10 +11,11 @@ use Rattle.trie.specs.declared.Standing.{Standing}
 use Rattle.trie.specs.declared.Phase.{Phase}
 use Rattle.trie.specs.declared.Answer.{Answer}
 use Rattle.trie.specs.declared.Plan.{Plan}
+use Rattle.trie.specs.declared.Damage.{Damage}
 use Rattle.trie.specs.declared.Next.{Next}
 use Rattle.trie.specs.Sound.{cell_energy}
 use Rattle.trie.specs.Values.{value_of}
-use Rattle.trie.specs.Leaf.{goes_on}
+use Rattle.trie.specs.Leaf.{goes_on, keep}
 use Rattle.history.specs.Book.{Book, sum, ones, weights, answer}
 use Rattle.history.proofs.Depicting.{Same}
 use Rattle.history.proofs.Whole.{Whole, whole_top, whole_grow}
@@ -44,9 +45,9 @@ module _ (ver : ℕ → Version) (u : ℕ) (B : Book) (h : ℕ) where
         → passed + (ver st.version.0).count ≤ 2 ^ h → Under e (Query.Select j) (Phase.Select j st x passed)
 
   -- a step of the query q, with e steps to be done after it: it goes on, or answers from the book where none is left
-  pub data Walks : ℕ → Query → Plan → Type 0 where
-    ends : {q : Query} {a : Answer} → value_of a ≡ answer (2 ^ h) (Operation.Query q) B → Walks 0 q (Plan.Keep (Next.Done a))
-    goes : {e : ℕ} {q : Query} {p : Phase} → Under e q p → Walks (suc e) q (Plan.Keep (goes_on p))
+  pub data Walks : ℕ → Query → Result Plan Damage → Type 0 where
+    ends : {q : Query} {a : Answer} → value_of a ≡ answer (2 ^ h) (Operation.Query q) B → Walks 0 q (keep (Next.Done a))
+    goes : {e : ℕ} {q : Query} {p : Phase} → Under e q p → Walks (suc e) q (keep (goes_on p))
 
 -- ---- others' steps leave it as it is
 

@@ -1,6 +1,6 @@
 -- The third demand: what holds at every moment of every history. Its proof is in proofs/EveryHistory.antt.
 -- Every name here leads to Lists, Book, Arrivals, Put, Order and Histories, and to the tree's own definitions. Assumes nothing.
-use Rattle.std.specs.Prelude.{◌≡◌, ◌≢◌, Bool, true, List, [], ◌∷◌, ◌++◌, ℕ, zero, suc, ◌+◌, ◌*◌, ◌/◌, ◌%◌, ◌^◌, ◌≤◌, ◌<◌, eqb}
+use Rattle.std.specs.Prelude.{◌≡◌, ◌≢◌, Bool, true, List, [], ◌∷◌, ◌++◌, ℕ, zero, suc, ◌+◌, ◌*◌, ◌/◌, ◌%◌, ◌^◌, ◌≤◌, ◌<◌, eqb, Result}
 use Rattle.std.proofs.Math.Option.{Option, some, none}
 use Rattle.decibel.specs.Told.{gives}
 use Rattle.decibel.specs.Energy.{energy_of}
@@ -9,7 +9,6 @@ use Rattle.trie.specs.declared.Update.{Update}
 use Rattle.trie.specs.declared.Query.{Query}
 use Rattle.trie.specs.declared.Operation.{Operation}
 use Rattle.trie.specs.declared.Phase.{Phase}
-use Rattle.trie.specs.declared.Promised.{Promised}
 use Rattle.trie.specs.Choice.{pick}
 use Rattle.trie.specs.Size.{height_of}
 use Rattle.trie.specs.Tables.{used_of, current_of, room_of, version_at}
@@ -84,7 +83,7 @@ pub record Carried (w : ℕ) (s : State) (m : Memory) (id : ℕ) : Type 0 where
 -- all that busy updates may still make has room
 pub record Room (share w : ℕ) (s : State) : Type 0 where
   pub promised : ℕ
-  pub is : promised_of share w s.board ≡ Promised.Of promised
+  pub is : promised_of share w s.board ≡ Result.Ok promised
   pub within : used_of s.nodes + promised ≤ room_of s.versions
 
 -- an update with this answer has reached every node on its cell's path

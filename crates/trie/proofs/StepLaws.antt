@@ -62,17 +62,17 @@ module _ (b : Bounds) (x : ℕ) where
       by true e = puts refl refl (ltb-true b.used b.room e)
       by false e = damaged
 
-  find_puts : (k d : ℕ) (right : Bool) (s : Result Fork Damage) → Puts b x (find_seen k d right s)
-  find_puts k d right (Result.Err e) = damaged
-  find_puts k d right (Result.Ok f) = search (pick_puts, keeps)
+  find_puts : (k : ℕ) (right : Bool) (s : Result Fork Damage) → Puts b x (find_seen k right s)
+  find_puts k right (Result.Err e) = damaged
+  find_puts k right (Result.Ok f) = search (pick_puts, keeps)
 
-  rank_puts : (k d : ℕ) (right : Bool) (count energy : ℕ) (s : Result Fork Damage) → Puts b x (rank_seen b k d right count energy s)
-  rank_puts k d right count energy (Result.Err e) = damaged
-  rank_puts k d right count energy (Result.Ok f) = search (sure_puts, pick_puts, keeps)
+  rank_puts : (k : ℕ) (right : Bool) (count energy : ℕ) (s : Result Fork Damage) → Puts b x (rank_seen b k right count energy s)
+  rank_puts k right count energy (Result.Err e) = damaged
+  rank_puts k right count energy (Result.Ok f) = search (sure_puts, pick_puts, keeps)
 
-  select_puts : (j d y passed : ℕ) (s : Result Fork Damage) → Puts b x (select_seen b j d y passed s)
-  select_puts j d y passed (Result.Err e) = damaged
-  select_puts j d y passed (Result.Ok f) = search (sure_puts, pick_puts, keeps)
+  select_puts : (j y passed : ℕ) (s : Result Fork Damage) → Puts b x (select_seen b j y passed s)
+  select_puts j y passed (Result.Err e) = damaged
+  select_puts j y passed (Result.Ok f) = search (sure_puts, pick_puts, keeps)
 
   first_puts : (q : Query) (v : VersionNumber) (r : Version) → Puts b x (first_of q v r)
   first_puts (Query.Find k) v r = keeps

@@ -204,12 +204,17 @@ pub struct Bounds {
     pub room: u64,
 }
 
+// A child of the version at which a query stands: where the query would stand next, and the version there.
+#[derive(Clone, Copy)]
+pub struct Child {
+    pub standing: Standing,
+    pub version: Version,
+}
+
 // The two children of the version at which a query stands, and whether they are leaves.
 #[derive(Clone, Copy)]
 pub struct Fork {
-    pub left: VersionNumber,
-    pub at_left: Version,
-    pub right: VersionNumber,
-    pub at_right: Version,
+    pub left: Child,
+    pub right: Child,
     pub last: bool,
 }
