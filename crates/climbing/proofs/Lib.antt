@@ -1,3 +1,3 @@
--- What two functions of a refresh use:
--- laws over plain numbers, each for a test that the code makes.
-pub mod Refreshes
+-- The law of a climb's node:
+-- it is small enough for the numbers of its children.
+pub mod Nodes

@@ -1,43 +1,28 @@
--- The new version of a leaf: the level fits, so that the conversion gives its energy and no refusal.
+-- A level that fits is converted: the conversion answers its energy and no refusal.
 -- Assumes nothing.
-use Rattle.std.specs.Prelude.{Result, Ok, Err}
-use mathlib.Core.Path.{◌≡◌, sym, ap, ◌∙◌, subst}
-use mathlib.Core.Bool.{true}
-use Prim.Native.Nat.{ℕ}
-use native.Mathlib.Omega.{arith}
-use borrow.Author.Tests.{leb-true}
-use lib.Dec.{ltb, leb}
+use Rattle.std.specs.Prelude.{◌≡◌, true, ◌&&◌, ℕ, ltb, leb, Result, Ok, Err}
+use Rattle.std.proofs.Common.{ap, ◌∙◌, subst, leb-true}
 use Rattle.decibel.specs.declared.Level.{Level}
 use Rattle.decibel.specs.declared.Energy.{Energy}
 use Rattle.decibel.specs.declared.TooLoud.{TooLoud}
-use Rattle.decibel.specs.Told.{Told, refused, gives}
+use Rattle.decibel.specs.Told.{gives}
 use Rattle.decibel.specs.Energy.{energy_of}
 use Rattle.decibel.specs.Conversion.{loudest, convert_of}
 use Rattle.decibel.specs.Answer.{told_of}
 use Rattle.decibel.proofs.Laws.{converts}
-use Rattle.trie.specs.declared.Version.{Version}
 use Rattle.trie.specs.declared.Update.{Update}
-use Rattle.trie.specs.Tables.{version}
 use Rattle.trie.specs.Record.{update_fits}
-use Rattle.trie.specs.Leaf.{wanted}
 use Rattle.trie.proofs.SizeLaws.{and_second}
 
-module _ (n : ℕ) (u : Update) (k : ℕ) (level : Level) (answer : Result Energy TooLoud) (fits : update_fits n u ≡ true) (is : u ≡ Update.Insert k level) (told : told_of answer ≡ convert_of level.0) where
-  gives_energy : told_of answer ≡ gives (energy_of level.0)
-  gives_energy =
-      let f : update_fits n (Update.Insert k level) ≡ true = subst (λ (x : Update). update_fits n x ≡ true) is fits in
-      told ∙ converts level.0 (leb-true level.0 loudest (and_second (ltb k n) (leb level.0 loudest) f))
+same_energy : (a b : Energy) → a.0 ≡ b.0 → ◌≡◌ {A = Result Energy TooLoud} (Ok a) (Ok b)
+same_energy a b e = ap (λ (x : ℕ). Ok (record { 0 = x })) e
 
-  pub new_marked : (energy : Energy) (r : Version) → answer ≡ Ok energy → r ≡ version 0 0 1 energy.0 level.0 → r ≡ wanted u
-  new_marked energy r e q =
-      let g : ◌≡◌ {A = Told ℕ} (gives energy.0) (gives (energy_of level.0)) = sym (ap told_of e) ∙ gives_energy in
-      let same : energy.0 ≡ energy_of level.0 = cc in
-      q ∙ ap (λ (t : ℕ). version 0 0 1 t level.0) same ∙ sym (ap wanted is)
+told_gives : (answer : Result Energy TooLoud) (t : ℕ) → told_of answer ≡ gives t → answer ≡ Ok (record { 0 = t })
+told_gives (Ok energy) t e = let same : energy.0 ≡ t = cc in same_energy energy (record { 0 = t }) same
+told_gives (Err loud) t e = cc
 
-  pub never_loud : {A : Type 0} (loud : TooLoud) → answer ≡ Err loud → A
-  never_loud loud e =
-      let g : ◌≡◌ {A = Told ℕ} (refused 7) (gives (energy_of level.0)) = sym (ap told_of e) ∙ gives_energy in
-      absurd (let z : ◌≡◌ {A = ℕ} 0 1 = cc in omega arith)
-
-pub new_unmarked : (u : Update) (k : ℕ) (r : Version) → u ≡ Update.Delete k → r ≡ version 0 0 0 0 0 → r ≡ wanted u
-new_unmarked u k r is q = q ∙ sym (ap wanted is)
+pub converted : (n : ℕ) (u : Update) (k : ℕ) (level : Level) (answer : Result Energy TooLoud) → update_fits n u ≡ true → u ≡ Update.Insert k level → told_of answer ≡ convert_of level.0
+    → answer ≡ Ok (record { 0 = energy_of level.0 })
+converted n u k level answer fits is told =
+    let f : (ltb k n && leb level.0 loudest) ≡ true = subst (λ (x : Update). update_fits n x ≡ true) is fits in
+    told_gives answer (energy_of level.0) (told ∙ converts level.0 (leb-true level.0 loudest (and_second (ltb k n) (leb level.0 loudest) f)))

@@ -4,6 +4,7 @@
 
 ghost use Rattle.std.specs.Prelude.{◌≡◌, ◌+◌, ◌≤◌, leb};
 ghost use Rattle.trie.specs.Choice.{pick};
+ghost use Rattle.trie.specs.Refusing.{damaged};
 ghost use Rattle.trie.specs.Size.{most_cells};
 ghost use Rattle.trie.specs.Sound.{bounds_of, used_sound, numbered, leaf_sound, inner_sound, sound_at, sound_in, sum_in};
 
@@ -85,6 +86,18 @@ pub fn is_sound_in(b: Bounds, leaf: bool, versions: &[u64], v: VersionNumber) ->
     ensures { result ≡ sound_in b leaf versions.now v }
 {
     is_numbered(b, v) && is_placed(b, leaf, load(versions, v))
+}
+
+// The number of a version that may stand there, as it stands in the table; any other is damage.
+pub fn judged(
+    b: Bounds,
+    leaf: bool,
+    versions: &[u64],
+    v: VersionNumber,
+) -> Result<VersionNumber, Damage>
+    ensures { result ≡ pick (sound_in b leaf versions.now v) (Ok v) damaged }
+{
+    is_sound_in(b, leaf, versions, v).then_some(v).ok_or(Damage)
 }
 
 // Whether a sum stays within a bound, without forming it where it would not.

@@ -1,15 +1,16 @@
 -- `marking::new_leaf` meets its contract: the level fits, so that the conversion does not refuse it.
 -- Assumes nothing.
-use Rattle.marking.proofs.Converting.{new_marked, never_loud, new_unmarked}
+use Rattle.std.specs.Prelude.{◌≡◌}
+use Rattle.std.proofs.Common.{rules}
+use Rattle.decibel.specs.Energy.{energy_of}
+use Rattle.marking.proofs.Converting.{converted}
 use Rattle.marking.proofs.new_leaf.Goals as goal
 
-pub returns-in-Ok : goal.returns-in-Ok
-returns-in-Ok c =
-    new_marked _ _ _ _ _ (c.requires) c.in-Insert.is c.convert.ensures _ _ c.in-Ok.is c.leaf_version.ensures
+pub unwrap-requires : goal.unwrap-requires
+unwrap-requires c = rw (converted _ _ _ _ _ c.requires c.in-Insert.is c.convert.ensures) (search rules)
 
-pub returns-in-Err : goal.returns-in-Err
-returns-in-Err c =
-    never_loud _ _ _ _ _ (c.requires) c.in-Insert.is c.convert.ensures _ c.in-Err.is
-
-pub returns-in-Delete : goal.returns-in-Delete
-returns-in-Delete c = new_unmarked _ _ _ c.in-Delete.is c.leaf_version-in-Delete.ensures
+pub returns-in-Insert : goal.returns-in-Insert
+returns-in-Insert c =
+    let e = converted _ _ _ _ _ c.requires c.in-Insert.is c.convert.ensures in
+    let same : c.unwrap.result.0 ≡ energy_of c.in-Insert.level.0 = cc in
+    simp (c.leaf_version.ensures, c.in-Insert.is, same)
