@@ -16,7 +16,7 @@ pub(crate) fn share(n: u64) -> u64
 }
 
 // The updates among some workers: how many there are, how many versions they have made, and whether each is within its share.
-// No Result: to stop at the first that is damaged would branch on each worker, and was slower (docs/DECISIONS.md, 42).
+// A flag and no Result, as loops that stopped at damage were tried, and made starts and steps a seventh and a quarter slower (docs/DECISIONS.md, 42).
 #[derive(Clone, Copy)]
 struct Tally {
     updates: u64,
