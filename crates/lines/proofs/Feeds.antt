@@ -155,13 +155,15 @@ module _ (b : Begun) (held : b.held ≤ longest) (room : length b.bytes ≡ long
       ap (λ (p : Part). grown p s) part_is ∙ grown_is (take b.held b.bytes) s (omega (arith, taken))
       ∙ ap (λ (t : Bool). pick t (upto (take b.held b.bytes ++ s)) over) (le-leb (length (take b.held b.bytes) + length s) longest (omega (arith, taken)))
 
-  pub keeps_none : (s : List ℕ) → longest < b.held + length s → grown (part_of b) s ≡ over
-  keeps_none s h =
-      ap (λ (p : Part). grown p s) part_is ∙ grown_is (take b.held b.bytes) s (omega (arith, taken))
-      ∙ ap (λ (t : Bool). pick t (upto (take b.held b.bytes ++ s)) over) (lt-leb (length (take b.held b.bytes) + length s) longest (omega (arith, taken)))
-
-pub keeps_over : (b : Begun) (s : List ℕ) → longest < b.held → grown (part_of b) s ≡ over
-keeps_over b s h = ap (λ (t : Bool). grown (pick t (upto (take b.held b.bytes)) over) s) (lt-leb b.held longest h) ∙ grown_over s
+pub keeps_none : (b : Begun) (s : List ℕ) → length b.bytes ≡ longest → longest < b.held + length s → grown (part_of b) s ≡ over
+keeps_none b s room h = by (leb b.held longest) refl
+  where
+    by : (t : Bool) → leb b.held longest ≡ t → grown (pick t (upto (take b.held b.bytes)) over) s ≡ over
+    by true e =
+        let taken : length (take b.held b.bytes) ≡ b.held = length-take-le b.held b.bytes (omega (arith, room, leb-true b.held longest e)) in
+        grown_is (take b.held b.bytes) s (omega (arith, taken, leb-true b.held longest e))
+        ∙ ap (λ (t : Bool). pick t (upto (take b.held b.bytes ++ s)) over) (lt-leb (length (take b.held b.bytes) + length s) longest (omega (arith, taken)))
+    by false e = grown_over s
 
 pub part_over : (b : Begun) → longest < b.held → part_of b ≡ over
 part_over b h = ap (λ (t : Bool). pick t (upto (take b.held b.bytes)) over) (lt-leb b.held longest h)

@@ -7,8 +7,8 @@ ghost use Rattle.lines.specs.Feeding.{widest};
 ghost use Rattle.lines.specs.Places.{Closes};
 
 use crate::keeping::{blank, close};
-use crate::places::{first_place, go_on, history_at, is_ended, next_line, place_after};
-use crate::runs::{first_run, is_on, serve_steps};
+use crate::places::{first_place, go_on, place_after};
+use crate::runs::{first_run, serve_steps};
 use crate::turns::take_turn;
 use crate::{Begun, History, NODE_TABLE, Place, Served, VERSION_TABLE};
 use trie::{MOST_WORKERS, Worker};
@@ -28,29 +28,17 @@ fn serve_lines(
         (watch result.history nodes.new versions.new board.new) out.new }
 {
     let mut p = first_place(begun, history, chunk);
-    while is_ended(p, chunk.len()) {
+    while p.end < chunk.len() {
         let r = first_run(p);
-        if is_on(r) {
-            let last = serve_steps(chunk, r, history_at(p), nodes, versions, board, out);
-            p = place_after(chunk, last, history_at(p));
+        if r.on {
+            let last = serve_steps(chunk, r, p.history, nodes, versions, board, out);
+            p = place_after(chunk, last, p.history);
         } else {
-            let turn = take_turn(next_line(p), history_at(p), nodes, versions, board);
+            let turn = take_turn(p.line, p.history, nodes, versions, board);
             p = go_on(turn, p, chunk, out);
         }
     }
     p
-}
-
-fn served(begun: Begun, p: Place, board: [Worker; MOST_WORKERS]) -> Served
-    ensures { result ≡ record { begun = begun; history = p.history; board = board; filled = p.filled } }
-{
-    let h = p.history;
-    Served {
-        begun: begun,
-        history: h,
-        board: board,
-        filled: p.filled,
-    }
 }
 
 fn serve_bytes(
@@ -66,9 +54,14 @@ fn serve_bytes(
     ensures { ◌≡◌ {A = Outcome} (record { begun = result.begun; watch = watch result.history nodes.new versions.new result.board; out = out.new; filled = result.filled })
         (serve_of begun (watch history nodes.old versions.old board) out.old chunk.now) }
 {
-    let mut b = board;
-    let p = serve_lines(chunk, begun, history, nodes, versions, &mut b, out);
-    served(close(p, begun, chunk), p, b)
+    let mut board = board;
+    let p = serve_lines(chunk, begun, history, nodes, versions, &mut board, out);
+    Served {
+        begun: close(p, begun, chunk),
+        history: p.history,
+        board,
+        filled: p.filled,
+    }
 }
 
 // Serves the first n bytes of a chunk, of which there are at most 16,384.

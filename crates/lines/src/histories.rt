@@ -32,22 +32,3 @@ pub(crate) fn words(v: u64) -> usize
         0
     }
 }
-
-// The words that are lent to the calls of a history.
-pub(crate) fn lent_words(h: History) -> usize
-    ensures { result ≡ words_of h.versions }
-{
-    words(h.versions)
-}
-
-pub(crate) fn cells_of(h: History) -> u64
-    ensures { result ≡ h.cells }
-{
-    h.cells
-}
-
-pub(crate) fn workers_of(h: History) -> u64
-    ensures { result ≡ h.workers }
-{
-    h.workers
-}

@@ -33,7 +33,8 @@ pub struct History {
     pub versions: u64,
 }
 
-// The bytes of a line whose end has not come yet, with zeros behind them; 41 held stands for more than 40.
+// The bytes of a line whose end has not come yet, with zeros behind them; more held than the longest line has are too many for any command.
+// Callers of `serve` and `finish` may lend any `held`, whose contracts say what it stands for, so a line too long is a number here and no case of its own.
 #[derive(Clone, Copy)]
 pub struct Begun {
     pub bytes: [u8; LONGEST_LINE],
@@ -47,13 +48,11 @@ pub enum Reply {
     Progress(Progress),
 }
 
-// The call that a line makes: 2 a start, 3 an open; or 0 and the number of its refusal.
+// The call that a line makes: a start with its worker, or an open with the N, W and V that it asks for.
 #[derive(Clone, Copy)]
-pub struct Call {
-    pub kind: u64,
-    pub number: u64,
-    pub words: usize,
-    pub operation: Operation,
+pub enum Call {
+    Start(u64, Operation),
+    Open(History),
 }
 
 // A line's answer, with the history after it.

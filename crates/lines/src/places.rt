@@ -62,13 +62,8 @@ pub(crate) fn first_place(begun: Begun, h: History, chunk: &[u8]) -> Place
     ensures { First begun h chunk.now result }
 {
     let e = line_end(chunk, 0);
-    let old = begun.bytes;
-    let held = begun.held;
-    let line = keep(old, held, &chunk[..e]);
-    let bytes = line.bytes;
-    let length = line.held;
     Place {
-        line: begun_line(bytes, length),
+        line: begun_line(keep(begun, &chunk[..e])),
         from: 0,
         end: e,
         history: h,
@@ -76,33 +71,13 @@ pub(crate) fn first_place(begun: Begun, h: History, chunk: &[u8]) -> Place
     }
 }
 
-pub(crate) fn is_ended(p: Place, length: usize) -> bool
-    ensures { result ≡ ltb p.end length }
-{
-    p.end < length
-}
-
-pub(crate) fn next_line(p: Place) -> Line
-    ensures { result ≡ p.line }
-{
-    p.line
-}
-
-pub(crate) fn history_at(p: Place) -> History
-    ensures { result ≡ p.history }
-{
-    p.history
-}
-
 // The answer is written, and the next line read.
 pub(crate) fn go_on(turn: Turn, p: Place, chunk: &[u8], out: &mut [u8]) -> Place
     requires { (p.end < length chunk.now) × (p.filled + widest ≤ length out.old) }
     ensures { Goes turn p chunk.now out.old out.new result }
 {
-    let h = turn.history;
-    let reply = turn.reply;
-    let filled = put_reply(reply, out, p.filled);
-    place_at(chunk, p.end + 1, h, filled)
+    let filled = put_reply(turn.reply, out, p.filled);
+    place_at(chunk, p.end + 1, turn.history, filled)
 }
 
 // The place behind a run.
@@ -110,7 +85,5 @@ pub(crate) fn place_after(chunk: &[u8], r: Run, h: History) -> Place
     requires { r.from ≤ length chunk.now }
     ensures { Placed chunk.now r.from h r.filled result }
 {
-    let from = r.from;
-    let filled = r.filled;
-    whole_line(chunk, from, h, filled)
+    whole_line(chunk, r.from, h, r.filled)
 }

@@ -6,7 +6,7 @@ ghost use Rattle.lines.specs.Watch.{Watch, watch, opened, Roomy};
 ghost use Rattle.lines.specs.Feeding.{widest};
 ghost use Rattle.lines.specs.Places.{run_of, Follows, Passes, Steady, Ran};
 
-use crate::histories::{cells_of, is_open, lent_words, workers_of};
+use crate::histories::{is_open, words};
 use crate::short::{Short, short_step};
 use crate::text::put_progress;
 use crate::{History, Place, Run};
@@ -61,18 +61,6 @@ fn pass_step(progress: Progress, r: Run, chunk: &[u8], out: &mut [u8]) -> Run
     next_step(chunk, r.end + 1, filled)
 }
 
-pub(crate) fn is_on(r: Run) -> bool
-    ensures { result ≡ r.on }
-{
-    r.on
-}
-
-fn stepped_worker(r: Run) -> u64
-    ensures { result ≡ r.number }
-{
-    r.number
-}
-
 // Serves a run of steps: what a step needs to know of the history is looked up once.
 pub(crate) fn serve_steps(
     chunk: &[u8],
@@ -89,12 +77,17 @@ pub(crate) fn serve_steps(
         → Ran begun chunk.now s₀ out₀ first (watch h nodes.old versions.old board.old) out.old
         → Ran begun chunk.now s₀ out₀ result (watch h nodes.new versions.new board.new) out.new) }
 {
-    let n = cells_of(h);
-    let w = workers_of(h);
-    let lent = lent_words(h);
+    let lent = words(h.versions);
     let mut r = first;
-    while is_on(r) {
-        let progress = board::step(n, w, stepped_worker(r), nodes, &mut versions[..lent], board);
+    while r.on {
+        let progress = board::step(
+            h.cells,
+            h.workers,
+            r.number,
+            nodes,
+            &mut versions[..lent],
+            board,
+        );
         r = pass_step(progress, r, chunk, out);
     }
     r

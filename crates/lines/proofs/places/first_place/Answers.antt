@@ -17,5 +17,5 @@ returns c =
       filled = refl;
       ends = c.line_end-e.ensures;
       line = c.begun_line.ensures ∙ ap line_at
-          (kept_part c.args.begun _ _ c.keep-line.ensures);
+          (kept_part c.args.begun _ _ c.keep.ensures);
     }

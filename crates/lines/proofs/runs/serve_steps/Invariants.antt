@@ -6,12 +6,12 @@ use Rattle.lines.specs.Watch.{Watch, watch}
 use Rattle.lines.specs.Places.{Steady, Ran}
 use Rattle.lines.proofs.runs.serve_steps.Given as goal
 
-abbrev pub invariant-loop-nodes : goal.invariant-loop-nodes
-invariant-loop-nodes l = Steady l.chunk l.r × (l.fn.first.from ≤ l.r.from) × (l.fn.first.on ≡ true → l.r.on ≡ false → l.fn.first.from < l.r.from)
+abbrev pub invariant-loop-r : goal.invariant-loop-r
+invariant-loop-r l = Steady l.chunk l.r × (l.fn.first.from ≤ l.r.from) × (l.fn.first.on ≡ true → l.r.on ≡ false → l.fn.first.from < l.r.from)
     × ((begun : Begun) (s₀ : Watch) (out₀ : List ℕ)
     → Ran begun l.chunk s₀ out₀ l.fn.first (watch l.fn.h l.initial.nodes l.initial.versions l.initial.board) l.initial.out
     → Ran begun l.chunk s₀ out₀ l.r (watch l.fn.h l.nodes l.versions l.board) l.out)
     × (length l.nodes ≡ length l.initial.nodes) × (length l.versions ≡ length l.initial.versions) × (length l.out ≡ length l.initial.out)
 
-abbrev pub decreases-loop-nodes : goal.decreases-loop-nodes
-decreases-loop-nodes l = length l.chunk - l.r.from
+abbrev pub decreases-loop-r : goal.decreases-loop-r
+decreases-loop-r l = length l.chunk - l.r.from
