@@ -171,10 +171,6 @@ part_over b h = ap (λ (t : Bool). pick t (upto (take b.held b.bytes)) over) (lt
 pub part_upto : (b : Begun) → b.held ≤ longest → part_of b ≡ upto (take b.held b.bytes)
 part_upto b h = ap (λ (t : Bool). pick t (upto (take b.held b.bytes)) over) (le-leb b.held longest h)
 
--- what is put at the start of an empty line is the line
-pub begun_put : (l bytes : List ℕ) (r : ℕ) → Put l 0 zeros bytes r → ◌≡◌ {A = Begun} (record { bytes = bytes; held = r }) (begun_of (upto l))
-begun_put l bytes r p = let e : r ≡ length l = omega (arith, p.ends) in λ i. record { bytes = p.holds i; held = e i }
-
 -- a part that fits comes back
 back_upto : (l : List ℕ) → length l ≤ longest → part_of (begun_of (upto l)) ≡ upto l
 back_upto l h =

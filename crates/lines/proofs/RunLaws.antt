@@ -9,6 +9,7 @@ use native.Mathlib.Omega.{arith}
 use borrow.Author.Tests.{ne_eqb}
 use lib.ListN.{length, take, drop, length-drop}
 use lib.Seq.{take_all}
+use Rattle.std.specs.Prelude.{Option, Some, None}
 use Rattle.grammar.specs.declared.Command.{Command}
 use Rattle.grammar.specs.declared.Line.{Line}
 use Rattle.trie.specs.declared.Progress.{Progress}
@@ -21,19 +22,16 @@ use Rattle.lines.specs.declared.History.{History}
 use Rattle.lines.specs.declared.Place.{Place}
 use Rattle.lines.specs.declared.Run.{Run}
 use Rattle.lines.specs.declared.Turn.{Turn}
-use Rattle.lines.specs.declared.short.Short.{Short}
+use Rattle.lines.specs.declared.Step.{Step}
 use Rattle.grammar.specs.Text.{course_text}
-use Rattle.lines.specs.Watch.{Watch, watch, opened, Roomy}
+use Rattle.lines.specs.Watch.{Watch, watch, opened}
 use Rattle.lines.specs.Turns.{answered, line_turn, turned}
 use Rattle.lines.specs.Calling.{words_of, stepping}
-use Rattle.lines.specs.Chunks.{upto, line_at, listing, served_of, part_of}
+use Rattle.lines.specs.Chunks.{Part, upto, line_at, listing, served_of, part_of}
 use Rattle.lines.specs.Feeding.{grown, between, Ends, widest, before}
-use Rattle.lines.specs.Places.{Found, Placed, First, Goes, Runs, run_by, run_of, Follows, Passes, Steady, Ran}
-use Rattle.lines.proofs.Feeds.{not_both, line_whole, line_answered, put_drop}
+use Rattle.lines.specs.Places.{Found, Placed, First, Goes, Runs, step_of_line, run_of, Passes, Steady, Ran}
+use Rattle.lines.proofs.Feeds.{line_whole, line_answered, put_drop}
 use Rattle.lines.proofs.Taken.{step_taken}
-
-pub roomy_still : (nodes nodes' versions versions' : List ℕ) → Roomy nodes versions → length nodes' ≡ length nodes → length versions' ≡ length versions → Roomy nodes' versions'
-roomy_still nodes nodes' versions versions' r p q = record { nodes_long = omega (arith, r.nodes_long); versions_long = omega (arith, r.versions_long) }
 
 -- behind a newline nothing of a line is begun
 before_later : (begun : Begun) (from : ℕ) → 0 < from → before begun from ≡ upto []
@@ -48,55 +46,44 @@ keeps_later begun chunk from n =
     (λ t. grown (pick (sym (ne_eqb from 0 n) t) (part_of begun) (upto [])) (take_all (length chunk - from) (drop from chunk) (omega (arith, length-drop from chunk)) t))
 
 -- a short step, and any other line
-pub placed_short : (chunk : List ℕ) (from : ℕ) (h : History) (at k e : ℕ) (r : Short) → Found chunk from r → r ≡ Short.Step k e
-    → Placed chunk from h at (record { line = Line.Is (Command.Step k); from = from; end = e; history = h; filled = at })
-placed_short chunk from h at k e r f q =
-    let g : Found chunk from (Short.Step k e) = subst (Found chunk from) q f in
+pub placed_short : (chunk : List ℕ) (from : ℕ) (h : History) (at : ℕ) (r : Option Step) (s : Step) → Found chunk from r → r ≡ Some s
+    → Placed chunk from h at (record { line = Line.Is (Command.Step s.worker); from = from; end = s.end; history = h; filled = at })
+placed_short chunk from h at r s f q =
+    let g : Found chunk from (Some s) = subst (Found chunk from) q f in
     record { begins = refl; history = refl; filled = refl; ends = g.0; line = sym g.2 }
 
--- a short step goes on with a run, and any other line ends it
-pub follows_short : (chunk : List ℕ) (from at k e : ℕ) (f : Short) (r : Run) → Found chunk from f → f ≡ Short.Step k e → r ≡ record { number = k; from = from; end = e; filled = at; on = true } → Follows chunk from at r
-follows_short chunk from at k e f r h q p =
-    let g : Found chunk from (Short.Step k e) = subst (Found chunk from) q h in
-    subst (Follows chunk from at) (sym p) (record { begins = refl; filled = refl; step = λ _. g })
-
-pub follows_none : (chunk : List ℕ) (from at : ℕ) (r : Run) → r ≡ record { number = 0; from = from; end = from; filled = at; on = false } → Follows chunk from at r
-follows_none chunk from at r p = subst (Follows chunk from at) (sym p) (record { begins = refl; filled = refl; step = λ z. absurd (not_both z) })
-
 -- the run that a line begins
-pub run_of_lem : (p : Place) (l : Line) → p.line ≡ l → run_by l p ≡ run_of p
-run_of_lem p l e = ap (λ (x : Line). run_by x p) (sym e)
+by_open : (t : Bool) (o : Bool) (s u : Step) → o ≡ t → pick t (Some s) None ≡ Some u → (o ≡ true) × (s ≡ u)
+by_open true o s u q e = (q, cc)
+by_open false o s u q e = absurd cc
 
-pub run_open : (p : Place) (i : ℕ) (t : Bool) → t ≡ opened p.history → ◌≡◌ {A = Run} (record { number = i; from = p.from; end = p.end; filled = p.filled; on = t }) (run_by (Line.Is (Command.Step i)) p)
-run_open p i t e = ap (λ (b : Bool). record { number = i; from = p.from; end = p.end; filled = p.filled; on = b }) e
+pub steps_opened : (l : Line) (p : Place) (s : Step) → step_of_line l p ≡ Some s → (opened p.history ≡ true) × (s.end ≡ p.end) × (l ≡ Line.Is (Command.Step s.worker))
+steps_opened (Line.Is (Command.Step i)) p s e =
+    let o = by_open (opened p.history) (opened p.history) (record { worker = i; end = p.end }) s refl e in
+    (o.0, ap (λ (x : Step). x.end) (sym o.1), ap (λ (x : Step). Line.Is (Command.Step x.worker)) o.1)
+steps_opened (Line.Is (Command.Start i o)) p s e = absurd cc
+steps_opened (Line.Is (Command.Open n w v)) p s e = absurd cc
+steps_opened Line.Not p s e = absurd cc
 
-pub run_by_lem : (l : Line) (p : Place) → (run_by l p).on ≡ stepping l p.history
-run_by_lem (Line.Is (Command.Step i)) p = refl
-run_by_lem (Line.Is (Command.Start i o)) p = refl
-run_by_lem (Line.Is (Command.Open n w v)) p = refl
-run_by_lem Line.Not p = refl
-
-pub on_opened : (l : Line) (p : Place) → (run_by l p).on ≡ true → opened p.history ≡ true
-on_opened (Line.Is (Command.Step i)) p e = e
-on_opened (Line.Is (Command.Start i o)) p e = absurd (not_both e)
-on_opened (Line.Is (Command.Open n w v)) p e = absurd (not_both e)
-on_opened Line.Not p e = absurd (not_both e)
-
-pub run_from : (l : Line) (p : Place) → (run_by l p).from ≡ p.from
-run_from (Line.Is (Command.Step i)) p = refl
-run_from (Line.Is (Command.Start i o)) p = refl
-run_from (Line.Is (Command.Open n w v)) p = refl
-run_from Line.Not p = refl
+pub steps_none : (l : Line) (p : Place) → step_of_line l p ≡ None → stepping l p.history ≡ false
+steps_none (Line.Is (Command.Step i)) p e = by (opened p.history) e
+  where
+    by : (t : Bool) → pick {A = Option Step} t (Some (record { worker = i; end = p.end })) None ≡ None → t ≡ false
+    by true e = absurd cc
+    by false e = refl
+steps_none (Line.Is (Command.Start i o)) p e = refl
+steps_none (Line.Is (Command.Open n w v)) p e = refl
+steps_none Line.Not p e = refl
 
 -- a run goes on behind a step
-pub steady_on : (chunk out out' : List ℕ) (progress : Progress) (r q : Run) → Steady chunk r → r.on ≡ true → Passes progress r chunk out out' q → Steady chunk q
-steady_on chunk out out' progress r q steady on g =
-    let z = g.follows.begins in
-    let a = steady.ahead on in
+pub steady_on : (chunk out out' : List ℕ) (progress : Progress) (r q : Run) (s : Step) → Steady chunk r → r.step ≡ Some s → Passes progress s r.filled chunk out out' q → Steady chunk q
+steady_on chunk out out' progress r q s steady is g =
+    let z = g.begins in
+    let a = steady.ahead s is in
     record {
       within = omega (arith, z, a.1);
       room = omega (arith, z, a.0, steady.room, g.most);
-      ahead = λ more. let f = g.follows.step more in (omega (arith, z, f.0.onward), f.1);
+      ahead = λ t e. let f : Found chunk q.from (Some t) = subst (Found chunk q.from) e g.step in (f.0.onward, f.1);
     }
 
 module _ (begun : Begun) (chunk : List ℕ) where
@@ -138,44 +125,45 @@ module _ (begun : Begun) (chunk : List ℕ) where
 
     -- the line at a place begins a run
     pub run_begins : (p : Place) (s : Watch) (out : List ℕ) → Runs begun chunk s₀ out₀ p s out → Ran begun chunk s₀ out₀ (run_of p) s out
-    run_begins p s out q = by p.line q.line
-      where
-        by : (l : Line) → l ≡ line_at (grown (before begun p.from) (between chunk p.from p.end)) → Ran begun chunk s₀ out₀ (run_by l p) s out
-        by (Line.Is (Command.Step i)) e = record { step = λ _. (q.ends, sym e); same = q.same; behind = q.behind }
-        by (Line.Is (Command.Start i o)) e = record { step = λ z. absurd (not_both z); same = q.same; behind = q.behind }
-        by (Line.Is (Command.Open n w v)) e = record { step = λ z. absurd (not_both z); same = q.same; behind = q.behind }
-        by Line.Not e = record { step = λ z. absurd (not_both z); same = q.same; behind = q.behind }
+    run_begins p s out q =
+        record {
+          step = λ t e.
+              let o = steps_opened p.line p t e in (
+                subst (Ends chunk p.from) (sym o.1) q.ends,
+                ap (λ (k : ℕ). line_at (grown (before begun p.from) (between chunk p.from k))) o.1 ∙ sym q.line ∙ o.2,
+              );
+          same = q.same;
+          behind = q.behind;
+        }
 
     pub run_steady : (p : Place) (s : Watch) (out : List ℕ) → Runs begun chunk s₀ out₀ p s out → p.end < length chunk → Steady chunk (run_of p)
-    run_steady p s out q h = by p.line
-      where
-        by : (l : Line) → Steady chunk (run_by l p)
-        by (Line.Is (Command.Step i)) = record { within = omega (arith, q.ends.onward, h); room = q.room; ahead = λ _. (q.ends.onward, h) }
-        by (Line.Is (Command.Start i o)) = record { within = omega (arith, q.ends.onward, h); room = q.room; ahead = λ _. (q.ends.onward, h) }
-        by (Line.Is (Command.Open n w v)) = record { within = omega (arith, q.ends.onward, h); room = q.room; ahead = λ _. (q.ends.onward, h) }
-        by Line.Not = record { within = omega (arith, q.ends.onward, h); room = q.room; ahead = λ _. (q.ends.onward, h) }
+    run_steady p s out q h =
+        record {
+          within = omega (arith, q.ends.onward, h);
+          room = q.room;
+          ahead = λ t e. let o = steps_opened p.line p t e in (omega (arith, q.ends.onward, o.1), omega (arith, h, o.1));
+        }
 
     -- a step of a run, its answer written, and the run behind it
-    pub step_more : (h : History) (r q : Run) (progress : Progress) (nodes versions nodes' part out out' : List ℕ) (board board' : List Worker)
-        → opened h ≡ true → r.on ≡ true → Steady chunk r → widest * length chunk ≤ length out
-        → after (progress_of progress) (state nodes' part board') ≡ step_of h.cells h.workers r.number (state nodes (take (words_of h.versions) versions) board)
-        → Passes progress r chunk out out' q → Ran begun chunk s₀ out₀ r (watch h nodes versions board) out
+    pub step_more : (h : History) (r q : Run) (t : Step) (progress : Progress) (nodes versions nodes' part out out' : List ℕ) (board board' : List Worker)
+        → opened h ≡ true → r.step ≡ Some t → Steady chunk r → widest * length chunk ≤ length out
+        → after (progress_of progress) (state nodes' part board') ≡ step_of h.cells h.workers t.worker (state nodes (take (words_of h.versions) versions) board)
+        → Passes progress t r.filled chunk out out' q → Ran begun chunk s₀ out₀ r (watch h nodes versions board) out
         → Ran begun chunk s₀ out₀ q (watch h nodes' (part ++ drop (words_of h.versions) versions) board') out'
-    step_more h r q progress nodes versions nodes' part out out' board board' under on steady k a g ran =
-        let e = r.end in
+    step_more h r q t progress nodes versions nodes' part out out' board board' under is steady k a g ran =
+        let e = t.end in
         let s = watch h nodes versions board in
         let s' = watch h nodes' (part ++ drop (words_of h.versions) versions) board' in
-        let at = ran.step on in
+        let at = ran.step t is in
         let f : r.filled ≤ length out = omega (arith, steady.room, steady.within, k) in
-        let z = g.follows.begins in
+        let z = g.begins in
         let b : upto [] ≡ before begun q.from = sym (before_later begun q.from (omega (arith, z))) in
-        let goes = line_answered chunk r.from e at.0 (steady.ahead on).1 (before begun r.from) s (answered (course_text (progress_of progress)) s') out out' r.filled q.filled f
-        (step_taken h nodes versions board r.number progress nodes' part board' under a ∙ ap (λ (x : Line). line_turn x s) (sym at.1)) g.put in
+        let goes = line_answered chunk r.from e at.0 (steady.ahead t is).1 (before begun r.from) s (answered (course_text (progress_of progress)) s') out out' r.filled q.filled f
+        (step_taken h nodes versions board t.worker progress nodes' part board' under a ∙ ap (λ (x : Line). line_turn x s) (sym at.1)) g.put in
         record {
-          step = λ more. (
-            subst (λ (i : ℕ). Ends chunk i q.end) (sym z) (g.follows.step more).0,
-            (λ t. line_at (grown (sym b t) (between chunk (z t) q.end))) ∙ line_whole (between chunk (e + 1) q.end) ∙ (g.follows.step more).2,
-          );
+          step = λ u more.
+              let found : Found chunk q.from (Some u) = subst (Found chunk q.from) more g.step in
+              (found.0, ap (λ (x : Part). line_at (grown x (between chunk q.from u.end))) (sym b) ∙ line_whole (between chunk q.from u.end) ∙ found.2);
           same = (λ t. served_of (listing (sym b t) s' (take q.filled out')) (drop (z t) chunk)) ∙ goes ∙ ran.same;
           behind = put_drop _ out out' out₀ r.filled q.filled f g.put ran.behind;
         }

@@ -7,7 +7,7 @@ use Prim.Native.Nat.{ℕ, ◌*◌, ◌-◌, ◌≤◌}
 use native.Mathlib.Omega.{arith}
 use borrow.Author.Tests.{leb-true}
 use lib.Dec.{leb}
-use lib.ListN.{take, drop, take-append-drop, length}
+use lib.ListN.{take, drop, take-append-drop}
 use Rattle.std.specs.Prelude.{Result, Ok, Err}
 use Rattle.decibel.specs.Told.{Told, refused, gives}
 use Rattle.grammar.specs.declared.Command.{Command}
@@ -28,7 +28,7 @@ use Rattle.lines.specs.declared.History.{History}
 use Rattle.lines.specs.declared.Reply.{Reply}
 use Rattle.grammar.specs.Text.{accepted_text, course_text}
 use Rattle.lines.specs.Replies.{reply_text}
-use Rattle.lines.specs.Watch.{Watch, watch, history, most_cells, most_versions, opened, lent, returned, Roomy}
+use Rattle.lines.specs.Watch.{Watch, watch, history, most_cells, most_versions, opened, lent, returned}
 use Rattle.lines.specs.Turns.{Answered, answered, refuses, opens, room, open_line, start_line, step_line, line_turn, turned}
 use Rattle.lines.specs.Calling.{words_of, stepping, call_of, kept_by}
 
@@ -51,10 +51,6 @@ room_same h e =
 
 pub lent_most : (v : ℕ) → words_of v ≤ width * most_versions
 lent_most v = omega (arith, room_most v)
-
--- the version table has the words that are lent where V is v
-pub lent_few : (v k : ℕ) (nodes versions : List ℕ) → k ≡ words_of v → Roomy nodes versions → k ≤ length versions
-lent_few v k nodes versions e room = omega (arith, e, lent_most v, room.versions_long)
 
 -- the checks of an open, by how they come out
 abbrev checked : ℕ → ℕ → State → Bool → Bool → Bool → After Accept

@@ -29,9 +29,9 @@ fn serve_lines(
 {
     let mut p = first_place(begun, history, chunk);
     while p.end < chunk.len() {
-        let r = first_run(p);
-        if r.on {
-            let last = serve_steps(chunk, r, p.history, nodes, versions, board, out);
+        let run = first_run(p);
+        if run.step.is_some() {
+            let last = serve_steps(chunk, run, p.history, nodes, versions, board, out);
             p = place_after(chunk, last, p.history);
         } else {
             let turn = take_turn(p.line, p.history, nodes, versions, board);

@@ -72,15 +72,20 @@ pub struct Place {
     pub filled: usize,
 }
 
-// A step among the lines of a chunk: its worker, where its line begins and ends, and where the text of the answers ends.
-// Where `on` is false the run of steps has ended, and the next line begins at `from`.
+// A step among the lines of a chunk: its worker, and where its line ends.
+#[derive(Clone, Copy)]
+pub struct Step {
+    pub worker: u64,
+    pub end: usize,
+}
+
+// A run of steps: where its next line begins, the step that this line is, and where the text of the answers ends.
+// Where there is no step the run has ended.
 #[derive(Clone, Copy)]
 pub struct Run {
-    pub number: u64,
     pub from: usize,
-    pub end: usize,
+    pub step: Option<Step>,
     pub filled: usize,
-    pub on: bool,
 }
 
 // What is kept from one chunk to the next, and where the text of the answers ends.

@@ -5,7 +5,7 @@ ghost use Rattle.lines.specs.Feeding.{Ends, widest};
 ghost use Rattle.lines.specs.Places.{Placed, First, Goes};
 
 use crate::keeping::{begun_line, keep};
-use crate::short::{Short, short_step};
+use crate::short::short_step;
 use crate::text::put_reply;
 use crate::{Begun, History, Place, Run, Turn};
 use grammar::{Command, Line};
@@ -33,10 +33,10 @@ fn whole_line(chunk: &[u8], from: usize, h: History, filled: usize) -> Place
     let e = line_end(chunk, from);
     Place {
         line: grammar::parse(&chunk[from..e]),
-        from: from,
+        from,
         end: e,
         history: h,
-        filled: filled,
+        filled,
     }
 }
 
@@ -46,14 +46,14 @@ fn place_at(chunk: &[u8], from: usize, h: History, filled: usize) -> Place
     ensures { Placed chunk.now from h filled result }
 {
     match short_step(chunk, from) {
-        Short::Step(k, e) => Place {
-            line: Line::Is(Command::Step(k)),
-            from: from,
-            end: e,
+        Some(step) => Place {
+            line: Line::Is(Command::Step(step.worker)),
+            from,
+            end: step.end,
             history: h,
-            filled: filled,
+            filled,
         },
-        Short::Not => whole_line(chunk, from, h, filled),
+        None => whole_line(chunk, from, h, filled),
     }
 }
 

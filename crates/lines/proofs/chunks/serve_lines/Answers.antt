@@ -1,14 +1,14 @@
 -- A turn of the loop serves a run of steps, or one line that is no step of the history under way; the place behind it is the next.
 -- Assumes nothing.
-use Rattle.std.proofs.Common.{◌≡◌, true, sym, subst, arith}
+use Rattle.std.proofs.Common.{sym, subst, arith, rules}
 use Rattle.lines.specs.declared.Run.{Run}
 use Rattle.lines.specs.Watch.{watch}
 use Rattle.lines.specs.Places.{Ran}
 use Rattle.lines.proofs.RunLaws.{one_more, run_begins, runs_behind}
 use Rattle.lines.proofs.chunks.serve_lines.Goals as goal
 
-pub loop-p-preserved-then-r : goal.loop-p-preserved-then-r
-loop-p-preserved-then-r c =
+pub loop-p-preserved-then-is_some : goal.loop-p-preserved-then-is_some
+loop-p-preserved-then-is_some c =
     let kept = c.loop-p.invariant in
     let p = c.loop-p.p in
     let chunk = c.args.chunk.now in
@@ -16,11 +16,10 @@ loop-p-preserved-then-r c =
     let last = c.serve_steps-last.result in
     let after = c.serve_steps-last.new in
     let served = c.serve_steps-last.ensures in
-    let on : c.first_run-r.result.on ≡ true = c.if-r.true in
     let begins = run_begins c.args.begun chunk start c.args.out.now p (watch p.history c.loop-p.nodes c.loop-p.versions c.loop-p.board) c.loop-p.out kept.0 in
-    let ran = subst (λ (r : Run). Ran c.args.begun chunk start c.args.out.now r (watch p.history c.loop-p.nodes c.loop-p.versions c.loop-p.board) c.loop-p.out) (sym c.first_run-r.ensures) begins in (
+    let ran = subst (λ (r : Run). Ran c.args.begun chunk start c.args.out.now r (watch p.history c.loop-p.nodes c.loop-p.versions c.loop-p.board) c.loop-p.out) (sym c.first_run-run.ensures) begins in (
       runs_behind c.args.begun chunk start c.args.out.now p.history last c.place_after-p.result after.nodes after.versions after.board after.out
-          (served.3 c.args.begun start c.args.out.now ran) served.0 (omega (arith, served.2 on)) c.place_after-p.ensures,
+          (served.3 c.args.begun start c.args.out.now ran) served.0 (omega (arith, served.2 (search rules))) c.place_after-p.ensures,
       omega (arith, kept.1, c.serve_steps-last.auto.nodes),
       omega (arith, kept.2, c.serve_steps-last.auto.versions),
       omega (arith, kept.3, c.serve_steps-last.auto.out),
