@@ -65,16 +65,6 @@ steps_opened (Line.Is (Command.Start i o)) p s e = absurd cc
 steps_opened (Line.Is (Command.Open n w v)) p s e = absurd cc
 steps_opened Line.Not p s e = absurd cc
 
-pub steps_none : (l : Line) (p : Place) → step_of_line l p ≡ None → stepping l p.history ≡ false
-steps_none (Line.Is (Command.Step i)) p e = by (opened p.history) e
-  where
-    by : (t : Bool) → pick {A = Option Step} t (Some (record { worker = i; end = p.end })) None ≡ None → t ≡ false
-    by true e = absurd cc
-    by false e = refl
-steps_none (Line.Is (Command.Start i o)) p e = refl
-steps_none (Line.Is (Command.Open n w v)) p e = refl
-steps_none Line.Not p e = refl
-
 -- a run goes on behind a step
 pub steady_on : (chunk out out' : List ℕ) (progress : Progress) (r q : Run) (s : Step) → Steady chunk r → r.step ≡ Some s → Passes progress s r.filled chunk out out' q → Steady chunk q
 steady_on chunk out out' progress r q s steady is g =
@@ -87,18 +77,6 @@ steady_on chunk out out' progress r q s steady is g =
     }
 
 module _ (begun : Begun) (chunk : List ℕ) where
-  pub none_yet : (h : History) (nodes versions : List ℕ) (board : List Worker) (out : List ℕ) (p : Place) → First begun h chunk p
-      → Runs begun chunk (watch h nodes versions board) out p (watch p.history nodes versions board) out
-  none_yet h nodes versions board out p f =
-      let z = f.begins in
-      record {
-        ends = subst (λ (i : ℕ). Ends chunk i p.end) (sym z) f.ends;
-        line = f.line ∙ ap (λ (n : ℕ). line_at (grown (part_of begun) (take n chunk))) (sym (sub-zero p.end)) ∙ ap (λ (i : ℕ). line_at (grown (before begun i) (between chunk i p.end))) (sym z);
-        room = omega (arith, f.filled);
-        same = λ t. served_of (listing (before begun (z t)) (watch (f.history t) nodes versions board) (take (f.filled t) out)) (drop (z t) chunk);
-        behind = refl;
-      }
-
   module _ (s₀ : Watch) (out₀ : List ℕ) where
     -- a turn, its answer written, and the next place
     pub one_more : (p r : Place) (turn : Turn) (nodes versions nodes' versions' out out' : List ℕ) (board board' : List Worker)
@@ -134,14 +112,6 @@ module _ (begun : Begun) (chunk : List ℕ) where
               );
           same = q.same;
           behind = q.behind;
-        }
-
-    pub run_steady : (p : Place) (s : Watch) (out : List ℕ) → Runs begun chunk s₀ out₀ p s out → p.end < length chunk → Steady chunk (run_of p)
-    run_steady p s out q h =
-        record {
-          within = omega (arith, q.ends.onward, h);
-          room = q.room;
-          ahead = λ t e. let o = steps_opened p.line p t e in (omega (arith, q.ends.onward, o.1), omega (arith, h, o.1));
         }
 
     -- a step of a run, its answer written, and the run behind it
