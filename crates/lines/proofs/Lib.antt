@@ -3,6 +3,7 @@
 pub mod Decided
 mod Taken
 pub mod Feeds
+mod Puts
 mod Shorts
 mod RunLaws
 mod Outcomes

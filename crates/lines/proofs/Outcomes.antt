@@ -15,7 +15,8 @@ use Rattle.lines.specs.declared.Place.{Place}
 use Rattle.lines.specs.Watch.{Watch}
 use Rattle.grammar.specs.Grammar.{longest}
 use Rattle.lines.specs.Chunks.{Part, upto, over, Listing, listing, byte_of, served_of, zeros, part_of, begun_of, Outcome, outcome, serve_of, finish_of}
-use Rattle.lines.specs.Feeding.{grown, between, widest, before}
+use Rattle.lines.specs.Replies.{widest}
+use Rattle.lines.specs.Feeding.{grown, between, before}
 use Rattle.lines.specs.Places.{Closes}
 use Rattle.lines.proofs.Feeds.{served_rest}
 

@@ -4,7 +4,6 @@ use mathlib.Core.Path.{◌≡◌, refl, sym, subst, ap, ◌∙◌}
 use mathlib.Core.Bool.{Bool, true, false}
 use mathlib.Core.List.{List, [], ◌++◌}
 use Prim.Native.Nat.{ℕ, ◌+◌, ◌*◌, ◌-◌, ◌≤◌, ◌<◌}
-use native.Mathlib.Nat.{sub-zero}
 use native.Mathlib.Omega.{arith}
 use borrow.Author.Tests.{ne_eqb}
 use lib.ListN.{length, take, drop, length-drop}
@@ -26,10 +25,11 @@ use Rattle.lines.specs.declared.Step.{Step}
 use Rattle.grammar.specs.Text.{course_text}
 use Rattle.lines.specs.Watch.{Watch, watch, opened}
 use Rattle.lines.specs.Turns.{answered, line_turn, turned}
-use Rattle.lines.specs.Calling.{words_of, stepping}
+use Rattle.lines.specs.Calling.{words_of}
 use Rattle.lines.specs.Chunks.{Part, upto, line_at, listing, served_of, part_of}
-use Rattle.lines.specs.Feeding.{grown, between, Ends, widest, before}
-use Rattle.lines.specs.Places.{Found, Placed, First, Goes, Runs, step_of_line, run_of, Passes, Steady, Ran}
+use Rattle.lines.specs.Replies.{widest}
+use Rattle.lines.specs.Feeding.{grown, between, Ends, before}
+use Rattle.lines.specs.Places.{Found, Placed, Goes, Runs, step_of_line, run_of, Passes, Steady, Ran}
 use Rattle.lines.proofs.Feeds.{line_whole, line_answered, put_drop}
 use Rattle.lines.proofs.Taken.{step_taken}
 

@@ -14,10 +14,10 @@ use Rattle.lines.specs.declared.Run.{Run}
 use Rattle.lines.specs.declared.Turn.{Turn}
 use Rattle.lines.specs.declared.Step.{Step}
 use Rattle.grammar.specs.Text.{Put, course_text}
-use Rattle.lines.specs.Replies.{reply_text}
+use Rattle.lines.specs.Replies.{reply_text, widest}
 use Rattle.lines.specs.Watch.{Watch, opened}
 use Rattle.lines.specs.Chunks.{line_at, listing, served_of, part_of}
-use Rattle.lines.specs.Feeding.{grown, between, Ends, widest, before}
+use Rattle.lines.specs.Feeding.{grown, between, Ends, before}
 
 -- the number that a byte stands for as a digit
 abbrev pub digit_of : ℕ → Option ℕ

@@ -3,7 +3,7 @@
 ghost use Rattle.std.specs.Prelude.{◌≡◌, ◌*◌, ◌≤◌, length, take};
 ghost use Rattle.lines.specs.Watch.{watch, Roomy};
 ghost use Rattle.lines.specs.Chunks.{Outcome, serve_of, finish_of};
-ghost use Rattle.lines.specs.Feeding.{widest};
+ghost use Rattle.lines.specs.Replies.{widest};
 ghost use Rattle.lines.specs.Places.{Closes};
 
 use crate::keeping::{blank, close};

@@ -1,7 +1,8 @@
 // Where the next line of a chunk begins and ends, and which line it is.
 // A place also carries the history before the line and how much text of the answers there is.
 ghost use Rattle.std.specs.Prelude.{◌≡◌, ◌+◌, ◌≤◌, ◌<◌, ltb, length};
-ghost use Rattle.lines.specs.Feeding.{Ends, widest};
+ghost use Rattle.lines.specs.Replies.{widest};
+ghost use Rattle.lines.specs.Feeding.{Ends};
 ghost use Rattle.lines.specs.Places.{Placed, First, Goes};
 
 use crate::keeping::{begun_line, keep};
@@ -76,7 +77,7 @@ pub(crate) fn go_on(turn: Turn, p: Place, chunk: &[u8], out: &mut [u8]) -> Place
     requires { (p.end < length chunk.now) × (p.filled + widest ≤ length out.old) }
     ensures { Goes turn p chunk.now out.old out.new result }
 {
-    let filled = put_reply(turn.reply, out, p.filled);
+    let filled = p.filled + put_reply(turn.reply, &mut out[p.filled..]);
     place_at(chunk, p.end + 1, turn.history, filled)
 }
 

@@ -3,7 +3,7 @@
 ghost use Rattle.std.specs.Prelude.{◌≡◌, true, IsSome, List, ℕ, ◌+◌, ◌*◌, ◌≤◌, ◌<◌, length};
 ghost use Rattle.lines.specs.declared.Begun.{Begun};
 ghost use Rattle.lines.specs.Watch.{Watch, watch, opened, Roomy};
-ghost use Rattle.lines.specs.Feeding.{widest};
+ghost use Rattle.lines.specs.Replies.{widest};
 ghost use Rattle.lines.specs.Places.{step_of_line, run_of, Passes, Steady, Ran};
 
 use crate::histories::{is_open, words};
@@ -43,7 +43,7 @@ fn pass_step(progress: Progress, step: Step, filled: usize, chunk: &[u8], out: &
     requires { (step.end < length chunk.now) × (filled + widest ≤ length out.old) }
     ensures { Passes progress step filled chunk.now out.old out.new result }
 {
-    let filled = put_progress(progress, out, filled);
+    let filled = filled + put_progress(progress, &mut out[filled..]);
     let from = step.end + 1;
     Run {
         from,
