@@ -1,24 +1,14 @@
 // The line that is begun at the end of a chunk: its bytes are kept until its end comes.
 // A line of more than 40 bytes is refused whole, so of such a line no byte is kept.
 ghost use Rattle.std.specs.Prelude.{◌≡◌, ◌≤◌, length, drop};
-ghost use Rattle.lines.specs.Chunks.{zeros, part_of, begun_of, line_at};
+ghost use Rattle.lines.specs.Chunks.{part_of, begun_of, line_at};
 ghost use Rattle.lines.specs.Feeding.{grown, before};
 
-use crate::{Begun, Place};
+use crate::{BLANK, Begun, Place};
 use grammar::{LONGEST_LINE, Line};
 
 // As many bytes are held of a line that is longer than any command, whose bytes are not kept.
 const OVERLONG: usize = LONGEST_LINE + 1;
-
-// No line is begun.
-pub(crate) fn blank() -> Begun
-    ensures { result ≡ record { bytes = zeros; held = 0 } }
-{
-    Begun {
-        bytes: [0u8; LONGEST_LINE],
-        held: 0,
-    }
-}
 
 // The line that is begun, with some bytes more; a line of more than 40 is not stored.
 pub(crate) fn keep(begun: Begun, s: &[u8]) -> Begun
@@ -59,5 +49,5 @@ pub(crate) fn close(p: Place, begun: Begun, chunk: &[u8]) -> Begun
     if p.from == 0 {
         return keep(begun, chunk);
     }
-    keep(blank(), &chunk[p.from..])
+    keep(BLANK, &chunk[p.from..])
 }

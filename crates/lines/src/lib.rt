@@ -14,7 +14,7 @@ mod turns;
 pub use chunks::{finish, serve};
 pub use grammar::LONGEST_LINE;
 use grammar::Line;
-use trie::{Accepted, MOST_WORKERS, Operation, Progress, Worker};
+use trie::{Accepted, MOST_WORKERS, Operation, Phase, Progress, Worker};
 
 // The most cells and the most versions of a history here, fewer than elsewhere; and tables with room for them.
 pub(crate) const LISTED_CELLS: u64 = 16;
@@ -24,6 +24,14 @@ pub(crate) const LISTED_VERSIONS: u64 = 1000;
 pub const NODE_TABLE: usize = 32;
 
 pub const VERSION_TABLE: usize = 5000;
+
+// The most bytes of a chunk, and of a buffer with room for an answer to every byte.
+pub const CHUNK: usize = 16384;
+
+pub const ANSWERS: usize = WIDEST * CHUNK;
+
+// The most bytes that an answer takes.
+pub(crate) const WIDEST: usize = 64;
 
 // The N, W and V of the history that is under way; zeros before the first accepted open.
 #[derive(Clone, Copy)]
@@ -88,11 +96,34 @@ pub struct Run {
     pub filled: usize,
 }
 
-// What is kept from one chunk to the next, and where the text of the answers ends.
+// What is kept from one chunk to the next: the line that is begun, the history under way, and the board.
 #[derive(Clone, Copy)]
-pub struct Served {
+pub struct Kept {
     pub begun: Begun,
     pub history: History,
     pub board: [Worker; MOST_WORKERS],
+}
+
+// No line is begun.
+pub(crate) const BLANK: Begun = Begun {
+    bytes: [0u8; LONGEST_LINE],
+    held: 0,
+};
+
+// What is kept before the first chunk: no line is begun, no history is under way, and every worker is idle.
+pub const AT_START: Kept = Kept {
+    begun: BLANK,
+    history: History {
+        cells: 0,
+        workers: 0,
+        versions: 0,
+    },
+    board: [Worker { phase: Phase::Idle }; MOST_WORKERS],
+};
+
+// What is kept behind a chunk, and where the text of the answers ends.
+#[derive(Clone, Copy)]
+pub struct Served {
+    pub kept: Kept,
     pub filled: usize,
 }
