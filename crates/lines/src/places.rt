@@ -1,6 +1,6 @@
 // Where the next line of a chunk begins and ends, and which line it is.
 // A place also carries the history before the line and how much text of the answers there is.
-ghost use Rattle.std.specs.Prelude.{◌≡◌, ◌+◌, ◌≤◌, ◌<◌, ltb, length};
+ghost use Rattle.std.specs.Prelude.{◌≡◌, ◌==◌, position, ◌+◌, ◌≤◌, ◌<◌, ltb, length};
 ghost use Rattle.lines.specs.Replies.{widest};
 ghost use Rattle.lines.specs.Feeding.{Ends};
 ghost use Rattle.lines.specs.Places.{Placed, First, Goes};
@@ -11,19 +11,21 @@ use crate::text::put_reply;
 use crate::{Begun, History, Place, Run, Turn};
 use grammar::{Command, Line};
 
+fn first_newline(bytes: &[u8]) -> Option<usize>
+    ensures { result ≡ position (λ b. b == 10) bytes.now }
+{
+    bytes.iter().position(|&b| b == b'\n')
+}
+
 // Where the line ends that is at `from`.
 fn line_end(chunk: &[u8], from: usize) -> usize
     requires { from ≤ length chunk.now }
     ensures { Ends chunk.now from result }
 {
-    let mut i = from;
-    while i < chunk.len() {
-        if chunk[i] == 10 {
-            return i;
-        }
-        i += 1;
+    match first_newline(&chunk[from..]) {
+        Some(length) => from + length,
+        None => chunk.len(),
     }
-    i
 }
 
 // The line that begins at `from`, whatever it is.
