@@ -223,7 +223,3 @@ part_fits b = by (leb b.held longest) refl
     by : (t : Bool) → leb b.held longest ≡ t → fits (pick t (upto (take b.held b.bytes)) over)
     by true e = omega (arith, length-take b.held b.bytes, leb-true b.held longest e)
     by false e = tt
-
--- the line that is kept is the line that has grown
-pub kept_part : (b k : Begun) (s : List ℕ) → k ≡ begun_of (grown (part_of b) s) → part_of k ≡ grown (part_of b) s
-kept_part b k s e = ap part_of e ∙ begun_back_lem (grown (part_of b) s) (grown_fits s (part_of b) (part_fits b))

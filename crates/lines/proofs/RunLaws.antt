@@ -3,12 +3,11 @@
 use mathlib.Core.Path.{◌≡◌, refl, sym, subst, ap, ◌∙◌}
 use mathlib.Core.Bool.{Bool, true, false}
 use mathlib.Core.List.{List, [], ◌++◌}
-use Prim.Native.Nat.{ℕ, ◌+◌, ◌*◌, ◌-◌, ◌≤◌, ◌<◌}
+use Prim.Native.Nat.{ℕ, ◌+◌, ◌*◌, ◌≤◌, ◌<◌}
 use native.Mathlib.Omega.{arith}
 use borrow.Author.Tests.{ne_eqb}
-use lib.ListN.{length, take, drop, length-drop}
-use lib.Seq.{take_all}
-use Rattle.std.specs.Prelude.{Option, Some, None}
+use lib.ListN.{length, take, drop}
+use Rattle.std.specs.Prelude.{Some, None}
 use Rattle.grammar.specs.declared.Command.{Command}
 use Rattle.grammar.specs.declared.Line.{Line}
 use Rattle.trie.specs.declared.Progress.{Progress}
@@ -36,21 +35,6 @@ use Rattle.lines.proofs.Taken.{step_taken}
 -- behind a newline nothing of a line is begun
 before_later : (begun : Begun) (from : ℕ) → 0 < from → before begun from ≡ upto []
 before_later begun from h = ap (λ (t : Bool). pick t (part_of begun) (upto [])) (ne_eqb from 0 (λ z. omega (arith, h, z)))
-
--- what is kept: all that is begun and the chunk, or what is behind its last newline
-pub keeps_first : (begun : Begun) (chunk : List ℕ) (from : ℕ) → from ≡ 0 → grown (part_of begun) chunk ≡ grown (before begun from) (drop from chunk)
-keeps_first begun chunk from e = ap (λ (i : ℕ). grown (before begun i) (drop i chunk)) (sym e)
-
-pub keeps_later : (begun : Begun) (chunk : List ℕ) (from : ℕ) → (from ≡ 0 → ⊥) → grown (upto []) (between chunk from (length chunk)) ≡ grown (before begun from) (drop from chunk)
-keeps_later begun chunk from n =
-    (λ t. grown (pick (sym (ne_eqb from 0 n) t) (part_of begun) (upto [])) (take_all (length chunk - from) (drop from chunk) (omega (arith, length-drop from chunk)) t))
-
--- a short step, and any other line
-pub placed_short : (chunk : List ℕ) (from : ℕ) (h : History) (at : ℕ) (r : Option Step) (s : Step) → Found chunk from r → r ≡ Some s
-    → Placed chunk from h at (record { line = Line.Is (Command.Step s.worker); from = from; end = s.end; history = h; filled = at })
-placed_short chunk from h at r s f q =
-    let g : Found chunk from (Some s) = subst (Found chunk from) q f in
-    record { begins = refl; history = refl; filled = refl; ends = g.0; line = sym g.2 }
 
 -- the run that a line begins
 by_open : (t : Bool) (o : Bool) (s u : Step) → o ≡ t → pick t (Some s) None ≡ Some u → (o ≡ true) × (s ≡ u)

@@ -63,9 +63,6 @@ lies x a e = by (leb 48 x && leb x 57) refl e
     by true q e = (leb-true 48 x (and_first (leb 48 x) (leb x 57) q), leb-true x 57 (and_second (leb 48 x) (leb x 57) q), cc)
     by false q e = absurd cc
 
-pub digit_most : (x a : ℕ) → digit_of x ≡ Some a → a ≤ 9
-digit_most x a e = let t = lies x a e in omega (arith, t.1, t.2)
-
 -- ---- the bytes where they lie
 
 module _ (chunk line : List ℕ) (i : ℕ) (lies_at : line ≡ drop i chunk) (h : i + 8 ≤ length chunk) (named : line ≡ (115 ∷ 116 ∷ 101 ∷ 112 ∷ 32 ∷ []) ++ drop 5 line) where
