@@ -1,14 +1,18 @@
 -- A line at once: the bytes up to its newline do what they do one by one; and text that is put into the buffer is text written.
 -- Assumes nothing.
 use mathlib.Core.Path.{◌≡◌, refl, sym, ap, ◌∙◌}
-use mathlib.Core.Bool.{Bool, true, false}
+use mathlib.Core.Bool.{Bool, true, false, cond}
 use mathlib.Core.List.{List, [], ◌∷◌, ◌++◌, append_assoc, append-nil}
-use Prim.Native.Nat.{ℕ, suc, ◌+◌, ◌-◌, ◌≤◌, ◌<◌}
+use Prim.Native.Nat.{ℕ, zero, suc, ◌+◌, ◌-◌, ◌≤◌, ◌<◌}
 use native.Mathlib.Omega.{arith}
-use borrow.Author.Tests.{eq-eqb, ne_eqb, lt-ltb, le-leb, lt-leb, leb-true, leb-false, ltb-true, ltb-false}
+use borrow.Author.Tests.{eq-eqb, eqb-true, lt-ltb, le-leb, lt-leb, leb-true, leb-false, ltb-true, ltb-false}
 use lib.Dec.{eqb, ltb, leb}
 use lib.ListN.{length, take, drop, get_or, length-append, take-append-drop, drop_of_length-le, length-drop, length-take}
-use lib.Seq.{paste, take-suc, get_or-drop, drop-drop, take-length, take-paste, drop-paste, length-take-le}
+use lib.Seq.{paste, get_or-drop, drop-drop, take-length, take-paste, drop-paste, length-take-le}
+use Rattle.std.specs.Prelude.{Some, None}
+use Rattle.std.specs.List.{position, position_or_len}
+use Rattle.std.proofs.lemmas.List.Quantifiers.{position-Some}
+use Rattle.std.proofs.lemmas.List.Sums.{fails_before_first}
 use Rattle.std.proofs.lemmas.List.{drop_more}
 use Rattle.grammar.specs.Grammar.{longest, line_of}
 use Rattle.trie.specs.Choice.{pick}
@@ -24,29 +28,50 @@ not_both e = let z : ◌≡◌ {A = ℕ} 0 1 = ap (λ (b : Bool). pick b 1 0) e 
 
 -- ---- bytes that are no newline
 
-plain_one : (t : Bool) (x y : Bool) → (x ≡ true → y ≡ true) → pick t false x ≡ true → pick t false y ≡ true
-plain_one true x y f e = e
-plain_one false x y f e = f e
+plain_one : (t : Bool) (x : Bool) → t ≡ false → x ≡ true → pick t false x ≡ true
+plain_one true x e f = absurd (not_both (sym e))
+plain_one false x e f = f
 
-pub plain_more : (xs : List ℕ) (b : ℕ) → plain xs ≡ true → (b ≡ 10 → ⊥) → plain (xs ++ (b ∷ [])) ≡ true
+plain_take : (n : ℕ) (xs : List ℕ) → ((k : ℕ) → k < n → eqb (get_or xs k 0) 10 ≡ false) → n ≤ length xs → plain (take n xs) ≡ true
 unfolding plain
-plain_more [] b e n = simp (ne_eqb b 10 n)
-plain_more (x ∷ xs) b e n = plain_one (eqb x 10) (plain xs) (plain (xs ++ (b ∷ []))) (λ e. plain_more xs b e n) e
+plain_take zero xs h l = refl
+plain_take (suc n) [] h l = absurd (omega (arith, l))
+plain_take (suc n) (x ∷ xs) h l = plain_one (eqb x 10) (plain (take n xs)) (h 0 (omega arith)) (plain_take n xs (λ k q. h (suc k) (omega (arith, q))) (omega (arith, l)))
 
-between_more : (chunk : List ℕ) (i e : ℕ) → i ≤ e → e < length chunk → between chunk i (e + 1) ≡ between chunk i e ++ (get_or chunk e 0 ∷ [])
-between_more chunk i e h k =
-    let q : e + 1 - i ≡ suc (e - i) = omega arith in
-    let r : i + (e - i) ≡ e = omega arith in
-    ap (λ (n : ℕ). take n (drop i chunk)) q
-    ∙ take-suc (drop i chunk) (e - i) 0 (omega (arith, length-drop i chunk))
-    ∙ ap (λ (b : ℕ). between chunk i e ++ (b ∷ [])) (get_or-drop i chunk (e - i) 0 ∙ ap (λ (n : ℕ). get_or chunk n 0) r)
+-- a line ends before its first newline, or with the chunk where it has none
+abbrev newline : ℕ → Bool
+newline b = eqb b 10
 
-pub plain_next : (chunk : List ℕ) (i e : ℕ) → i ≤ e → e < length chunk → plain (between chunk i e) ≡ true → (get_or chunk e 0 ≡ 10 → ⊥) → plain (between chunk i (e + 1)) ≡ true
-plain_next chunk i e h k p n = ap plain (between_more chunk i e h k) ∙ plain_more (between chunk i e) (get_or chunk e 0) p n
+module _ (chunk : List ℕ) (from : ℕ) (h : from ≤ length chunk) where
+  abbrev rest : List ℕ
+  rest = drop from chunk
 
-pub plain_none : (chunk : List ℕ) (i : ℕ) → plain (between chunk i i) ≡ true
-unfolding plain
-plain_none chunk i = let q : i - i ≡ 0 = omega arith in rw q
+  front_plain : (n e : ℕ) → e ≡ from + n → n ≤ length rest → ((k : ℕ) → k < n → newline (get_or rest k 0) ≡ false) → plain (between chunk from e) ≡ true
+  front_plain n e q l f = let m : e - from ≡ n = omega (arith, q) in ap (λ (k : ℕ). plain (take k rest)) m ∙ plain_take n rest f l
+
+  pub ends_first : (n : ℕ) → position newline rest ≡ Some n → Ends chunk from (from + n)
+  ends_first n q =
+      let p = position-Some newline rest n 0 q in
+      record {
+        onward = omega arith;
+        within = omega (arith, p.0, length-drop from chunk);
+        bytes = front_plain n (from + n) refl (omega (arith, p.0)) p.2;
+        newline = λ _. sym (get_or-drop from chunk n 0) ∙ eqb-true _ 10 p.1;
+      }
+
+  pub ends_none : position newline rest ≡ None → Ends chunk from (length chunk)
+  ends_none q =
+      let none : length rest ≤ position_or_len newline rest = by (ltb (position_or_len newline rest) (length rest)) refl q in
+      record {
+        onward = h;
+        within = omega arith;
+        bytes = front_plain (length rest) (length chunk) (omega (arith, length-drop from chunk, h)) (omega arith) (λ k l. fails_before_first newline rest k 0 (omega (arith, l, none)));
+        newline = λ l. absurd (omega (arith, l));
+      }
+    where
+      by : (t : Bool) → ltb (position_or_len newline rest) (length rest) ≡ t → cond t (Some (position_or_len newline rest)) None ≡ None → length rest ≤ position_or_len newline rest
+      by true e f = absurd cc
+      by false e f = ltb-false _ _ e
 
 -- ---- a line grows
 
@@ -155,23 +180,21 @@ module _ (b : Begun) (held : b.held ≤ longest) (room : length b.bytes ≡ long
       ap (λ (p : Part). grown p s) part_is ∙ grown_is (take b.held b.bytes) s (omega (arith, taken))
       ∙ ap (λ (t : Bool). pick t (upto (take b.held b.bytes ++ s)) over) (le-leb (length (take b.held b.bytes) + length s) longest (omega (arith, taken)))
 
-  pub keeps_none : (s : List ℕ) → longest < b.held + length s → grown (part_of b) s ≡ over
-  keeps_none s h =
-      ap (λ (p : Part). grown p s) part_is ∙ grown_is (take b.held b.bytes) s (omega (arith, taken))
-      ∙ ap (λ (t : Bool). pick t (upto (take b.held b.bytes ++ s)) over) (lt-leb (length (take b.held b.bytes) + length s) longest (omega (arith, taken)))
-
-pub keeps_over : (b : Begun) (s : List ℕ) → longest < b.held → grown (part_of b) s ≡ over
-keeps_over b s h = ap (λ (t : Bool). grown (pick t (upto (take b.held b.bytes)) over) s) (lt-leb b.held longest h) ∙ grown_over s
+pub keeps_none : (b : Begun) (s : List ℕ) → length b.bytes ≡ longest → longest < b.held + length s → grown (part_of b) s ≡ over
+keeps_none b s room h = by (leb b.held longest) refl
+  where
+    by : (t : Bool) → leb b.held longest ≡ t → grown (pick t (upto (take b.held b.bytes)) over) s ≡ over
+    by true e =
+        let taken : length (take b.held b.bytes) ≡ b.held = length-take-le b.held b.bytes (omega (arith, room, leb-true b.held longest e)) in
+        grown_is (take b.held b.bytes) s (omega (arith, taken, leb-true b.held longest e))
+        ∙ ap (λ (t : Bool). pick t (upto (take b.held b.bytes ++ s)) over) (lt-leb (length (take b.held b.bytes) + length s) longest (omega (arith, taken)))
+    by false e = grown_over s
 
 pub part_over : (b : Begun) → longest < b.held → part_of b ≡ over
 part_over b h = ap (λ (t : Bool). pick t (upto (take b.held b.bytes)) over) (lt-leb b.held longest h)
 
 pub part_upto : (b : Begun) → b.held ≤ longest → part_of b ≡ upto (take b.held b.bytes)
 part_upto b h = ap (λ (t : Bool). pick t (upto (take b.held b.bytes)) over) (le-leb b.held longest h)
-
--- what is put at the start of an empty line is the line
-pub begun_put : (l bytes : List ℕ) (r : ℕ) → Put l 0 zeros bytes r → ◌≡◌ {A = Begun} (record { bytes = bytes; held = r }) (begun_of (upto l))
-begun_put l bytes r p = let e : r ≡ length l = omega (arith, p.ends) in λ i. record { bytes = p.holds i; held = e i }
 
 -- a part that fits comes back
 back_upto : (l : List ℕ) → length l ≤ longest → part_of (begun_of (upto l)) ≡ upto l
@@ -200,7 +223,3 @@ part_fits b = by (leb b.held longest) refl
     by : (t : Bool) → leb b.held longest ≡ t → fits (pick t (upto (take b.held b.bytes)) over)
     by true e = omega (arith, length-take b.held b.bytes, leb-true b.held longest e)
     by false e = tt
-
--- the line that is kept is the line that has grown
-pub kept_part : (b k : Begun) (s : List ℕ) → k ≡ begun_of (grown (part_of b) s) → part_of k ≡ grown (part_of b) s
-kept_part b k s e = ap part_of e ∙ begun_back_lem (grown (part_of b) s) (grown_fits s (part_of b) (part_fits b))

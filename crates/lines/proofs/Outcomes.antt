@@ -15,7 +15,8 @@ use Rattle.lines.specs.declared.Place.{Place}
 use Rattle.lines.specs.Watch.{Watch}
 use Rattle.grammar.specs.Grammar.{longest}
 use Rattle.lines.specs.Chunks.{Part, upto, over, Listing, listing, byte_of, served_of, zeros, part_of, begun_of, Outcome, outcome, serve_of, finish_of}
-use Rattle.lines.specs.Feeding.{grown, between, widest, before}
+use Rattle.lines.specs.Replies.{widest}
+use Rattle.lines.specs.Feeding.{grown, between, before}
 use Rattle.lines.specs.Places.{Closes}
 use Rattle.lines.proofs.Feeds.{served_rest}
 
@@ -44,11 +45,11 @@ module _ (begun : Begun) (s₀ : Watch) (out₀ chunk : List ℕ) where
 
 -- ---- the input has ended
 
-pub finish_none : (begun kept : Begun) (s : Watch) (out : List ℕ) → begun.held ≡ 0 → kept ≡ record { bytes = zeros; held = 0 } → at_end kept s out 0 ≡ finish_of begun s out
+pub finish_none : (begun : Begun) (s : Watch) (out : List ℕ) → begun.held ≡ 0 → at_end (record { bytes = zeros; held = 0 }) s out 0 ≡ finish_of begun s out
 unfolding finish_of
-finish_none begun kept s out e k =
+finish_none begun s out e =
     let b : record { bytes = zeros; held = 0 } ≡ begun_of (part_of begun) = sym (ap (λ (h : ℕ). begun_of (pick (leb h longest) (upto (take h begun.bytes)) over)) e) in
-    (λ i. at_end ((k ∙ b) i) s out 0) ∙ ap (λ (t : Bool). outcome (pick t (listing (part_of begun) s []) (byte_of (listing (part_of begun) s []) 10)) out) (sym (eq-eqb begun.held 0 e))
+    (λ i. at_end (b i) s out 0) ∙ ap (λ (t : Bool). outcome (pick t (listing (part_of begun) s []) (byte_of (listing (part_of begun) s []) 10)) out) (sym (eq-eqb begun.held 0 e))
 
 pub finish_line : (begun : Begun) (s : Watch) (out : List ℕ) → (begun.held ≡ 0 → ⊥) → serve_of begun s out (10 ∷ []) ≡ finish_of begun s out
 unfolding serve_of finish_of served_of

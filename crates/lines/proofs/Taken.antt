@@ -6,9 +6,9 @@ use mathlib.Core.List.{List, ◌++◌}
 use Prim.Native.Nat.{ℕ, ◌*◌, ◌-◌, ◌≤◌}
 use native.Mathlib.Omega.{arith}
 use borrow.Author.Tests.{leb-true}
-use lib.Dec.{leb, eqb}
-use lib.ListN.{take, drop, take-append-drop, length}
-use Rattle.std.proofs.Common.{Option, Some, None}
+use lib.Dec.{leb}
+use lib.ListN.{take, drop, take-append-drop}
+use Rattle.std.specs.Prelude.{Result, Ok, Err, Option, Some, None}
 use Rattle.decibel.specs.Told.{Told, refused, gives}
 use Rattle.grammar.specs.declared.Command.{Command}
 use Rattle.trie.specs.declared.Accepted.{Accepted}
@@ -19,19 +19,17 @@ use Rattle.trie.specs.Choice.{pick}
 use Rattle.trie.specs.Size.{allowed, most_workers}
 use Rattle.trie.proofs.SizeLaws.{and_second}
 use Rattle.trie.specs.Tables.{width, roomy}
-use Rattle.trie.specs.Values.{Ok, ok, Course, accepted_of, progress_of}
+use Rattle.trie.specs.Values.{Ok as Accept, ok, Course, accepted_of, progress_of}
 use Rattle.trie.specs.Opening.{open_nodes, open_versions, open_board}
 use Rattle.trie.specs.Calls.{State, state, After, after, check, manned, open_of, start_of, step_of}
 use Rattle.lines.specs.declared.Call.{Call}
 use Rattle.lines.specs.declared.History.{History}
 use Rattle.lines.specs.declared.Reply.{Reply}
-use Rattle.lines.specs.declared.Turn.{Turn}
 use Rattle.grammar.specs.Text.{accepted_text, course_text}
 use Rattle.lines.specs.Replies.{reply_text}
-use Rattle.lines.specs.Watch.{Watch, watch, most_cells, most_versions, opened, lent, returned, Roomy}
+use Rattle.lines.specs.Watch.{Watch, watch, history, most_cells, most_versions, opened, lent, returned}
 use Rattle.lines.specs.Turns.{Answered, answered, refuses, opens, room, open_line, start_line, step_line, line_turn, turned}
-use Rattle.lines.specs.Calling.{words_of, no_operation, call, refusal, stepping, call_of, crew_of, kept_by}
-use Rattle.lines.proofs.Feeds.{not_both}
+use Rattle.lines.specs.Calling.{words_of, stepping, call_of, kept_by}
 
 room_most : (v : ℕ) → room v ≤ most_versions
 room_most v = by (leb v most_versions) refl
@@ -53,26 +51,8 @@ room_same h e =
 pub lent_most : (v : ℕ) → words_of v ≤ width * most_versions
 lent_most v = omega (arith, room_most v)
 
-by_pick : (t : Bool) (a b : Call) → a.words ≤ width * most_versions → b.words ≤ width * most_versions → (pick t a b).words ≤ width * most_versions
-by_pick true a b p q = p
-by_pick false a b p q = q
-
-most_words : (line : Option Command) (h : History) → (call_of line h).words ≤ width * most_versions
-unfolding call_of
-most_words (Some (Command.Step i)) h = omega arith
-most_words (Some (Command.Start i o)) h = by_pick (opened h) _ _ (lent_most h.versions) (omega arith)
-most_words (Some (Command.Open n w v)) h = by_pick (leb n most_cells) _ _ (lent_most v) (omega arith)
-most_words None h = omega arith
-
-pub words_most : (line : Option Command) (h : History) (c : Call) → c ≡ call_of line h → c.words ≤ width * most_versions
-words_most line h c e = rw e (most_words line h)
-
--- the version table has the words that a call is lent
-pub lent_few : (line : Option Command) (h : History) (c : Call) (k : ℕ) (nodes versions : List ℕ) → c ≡ call_of line h → k ≡ c.words → Roomy nodes versions → k ≤ length versions
-lent_few line h c k nodes versions e l room = omega (arith, l, words_most line h c e, room.versions_long)
-
 -- the checks of an open, by how they come out
-abbrev checked : ℕ → ℕ → State → Bool → Bool → Bool → After Ok
+abbrev checked : ℕ → ℕ → State → Bool → Bool → Bool → After Accept
 checked n w s a m r = check a 1 s (check m 2 s (check r 3 s (after (gives ok) (state (open_nodes n s.nodes) (open_versions n s.versions) (open_board w s.board)))))
 
 -- a refused open leaves all that was lent
@@ -118,95 +98,93 @@ module _ (h : History) (nodes versions : List ℕ) (board : List Worker) where
   unfolding start_line
   start_line_lem i o e = rw (e, room_same h e)
 
-  start_called : (line : Option Command) (c : Call) → c ≡ call_of line h → eqb c.kind 2 ≡ true → started c.number c.operation c.words ≡ line_turn line s
+  start_called : (line : Option Command) (i : ℕ) (o : Operation) → call_of line h ≡ Ok (Call.Start i o) → started i o (words_of h.versions) ≡ line_turn line s
   unfolding call_of line_turn
-  start_called (Some (Command.Step i)) c e k = absurd (not_both (ap (λ (x : Call). eqb x.kind 2) (sym e) ∙ k))
-  start_called (Some (Command.Start i o)) c e k = by (opened h) refl e
+  start_called (Some (Command.Step j)) i o e = absurd cc
+  start_called (Some (Command.Start j p)) i o e = by (opened h) refl e
     where
-      by : (t : Bool) → opened h ≡ t → c ≡ pick t (call 2 i (words_of h.versions) o) (refusal 10) → started c.number c.operation c.words ≡ start_line i o s
-      by true q e = (λ j. started (e j).number (e j).operation (e j).words) ∙ start_line_lem i o q
-      by false q e = absurd (not_both (ap (λ (x : Call). eqb x.kind 2) (sym e) ∙ k))
-  start_called (Some (Command.Open n w v)) c e k = by (leb n most_cells) e
+      by : (t : Bool) → opened h ≡ t → pick {A = Result Call ℕ} t (Ok (Call.Start j p)) (Err 10) ≡ Ok (Call.Start i o) → started i o (words_of h.versions) ≡ start_line j p s
+      by true q e =
+          let ei : i ≡ j = cc in
+          let eo : o ≡ p = cc in
+          (λ t. started (ei t) (eo t) (words_of h.versions)) ∙ start_line_lem j p q
+      by false q e = absurd cc
+  start_called (Some (Command.Open n w v)) i o e = by (leb n most_cells) e
     where
-      by : (t : Bool) → c ≡ pick t (call 3 n (words_of v) no_operation) (refusal 1) → started c.number c.operation c.words ≡ open_line n w v s
-      by true e = absurd (not_both (ap (λ (x : Call). eqb x.kind 2) (sym e) ∙ k))
-      by false e = absurd (not_both (ap (λ (x : Call). eqb x.kind 2) (sym e) ∙ k))
-  start_called None c e k = absurd (not_both (ap (λ (x : Call). eqb x.kind 2) (sym e) ∙ k))
+      by : (t : Bool) → pick {A = Result Call ℕ} t (Ok (Call.Open (history n w v))) (Err 1) ≡ Ok (Call.Start i o) → started i o (words_of h.versions) ≡ open_line n w v s
+      by true e = absurd cc
+      by false e = absurd cc
+  start_called None i o e = absurd cc
 
   -- the tables are as they were
-  pub start_taken : (line : Option Command) (c : Call) (a : Accepted) (board' : List Worker) (t : Turn) → c ≡ call_of line h → eqb c.kind 2 ≡ true
-      → after (accepted_of a) (state nodes (take c.words versions) board') ≡ start_of h.cells h.workers c.number c.operation (state nodes (take c.words versions) board)
-      → t ≡ record { reply = Reply.Accepted a; history = h } → turned t nodes versions board' ≡ line_turn line s
+  pub start_taken : (line : Option Command) (i : ℕ) (o : Operation) (k : ℕ) (a : Accepted) (board' : List Worker) → call_of line h ≡ Ok (Call.Start i o) → k ≡ words_of h.versions
+      → after (accepted_of a) (state nodes (take k versions) board') ≡ start_of h.cells h.workers i o (state nodes (take k versions) board)
+      → turned (record { reply = Reply.Accepted a; history = h }) nodes versions board' ≡ line_turn line s
   unfolding reply_text
-  start_taken line c a board' t e k q r =
-      ap (λ (u : Turn). turned u nodes versions board') r
-      ∙ ap (λ (vs : List ℕ). answered (accepted_text (accepted_of a)) (watch h nodes vs board')) (sym (take-append-drop c.words versions))
-      ∙ ap (λ (x : After Ok). shown accepted_text x c.words) q ∙ start_called line c e k
+  start_taken line i o k a board' e l q =
+      ap (λ (vs : List ℕ). answered (accepted_text (accepted_of a)) (watch h nodes vs board')) (sym (take-append-drop k versions))
+      ∙ ap (λ (x : After Accept). shown accepted_text x k) q ∙ ap (started i o) l ∙ start_called line i o e
 
   -- ---- an open
 
-  abbrev kept : Accepted → Option Command → List ℕ → List ℕ → List Worker → ℕ → Answered
-  kept a line nodes' part board' k = answered (accepted_text (accepted_of a)) (watch (kept_by a line h) nodes' (part ++ drop k versions) board')
+  abbrev kept : Accepted → History → List ℕ → List ℕ → List Worker → ℕ → Answered
+  kept a asked nodes' part board' k = answered (accepted_text (accepted_of a)) (watch (kept_by a asked h) nodes' (part ++ drop k versions) board')
 
   open_line_lem : (n w v : ℕ) (a : Accepted) (nodes' part : List ℕ) (board' : List Worker) → leb n most_cells ≡ true
-      → after (accepted_of a) (state nodes' part board') ≡ open_of n w (lent (room v) s) → kept a (Some (Command.Open n w v)) nodes' part board' (words_of v) ≡ open_line n w v s
+      → after (accepted_of a) (state nodes' part board') ≡ open_of n w (lent (room v) s) → kept a (history n w v) nodes' part board' (words_of v) ≡ open_line n w v s
   unfolding open_line accepted_text
   open_line_lem n w v Accepted.Ok nodes' part board' e q = rw e (ap (opens n w v s) q)
   open_line_lem n w v (Accepted.Refused k) nodes' part board' e q =
-      let l : state nodes' part board' ≡ lent (room v) s = ap (λ (x : After Ok). x.state) q ∙ open_left n w k (lent (room v) s) (sym (ap (λ (x : After Ok). x.told) q)) in
+      let l : state nodes' part board' ≡ lent (room v) s = ap (λ (x : After Accept). x.state) q ∙ open_left n w k (lent (room v) s) (sym (ap (λ (x : After Accept). x.told) q)) in
       rw e (ap (λ (x : State). refuses k (returned (room v) x s)) l
       ∙ ap (λ (vs : List ℕ). refuses k (watch h nodes vs board)) (take-append-drop (words_of v) versions) ∙ ap (opens n w v s) q)
 
-  abbrev Opens : Option Command → Call → Accepted → List ℕ → List ℕ → List Worker → Type 0
-  Opens line c a nodes' part board' = after (accepted_of a) (state nodes' part board') ≡ open_of c.number (crew_of line) (state nodes (take c.words versions) board)
-
-  open_called : (line : Option Command) (c : Call) (a : Accepted) (nodes' part : List ℕ) (board' : List Worker) → c ≡ call_of line h → eqb c.kind 3 ≡ true → Opens line c a nodes' part board'
-      → kept a line nodes' part board' c.words ≡ line_turn line s
+  open_called : (line : Option Command) (asked : History) (a : Accepted) (nodes' part : List ℕ) (board' : List Worker) → call_of line h ≡ Ok (Call.Open asked)
+      → after (accepted_of a) (state nodes' part board') ≡ open_of asked.cells asked.workers (state nodes (take (words_of asked.versions) versions) board)
+      → kept a asked nodes' part board' (words_of asked.versions) ≡ line_turn line s
   unfolding call_of line_turn
-  open_called (Some (Command.Step i)) c a nodes' part board' e k q = absurd (not_both (ap (λ (x : Call). eqb x.kind 3) (sym e) ∙ k))
-  open_called (Some (Command.Start i o)) c a nodes' part board' e k q = by (opened h) e
+  open_called (Some (Command.Step i)) asked a nodes' part board' e q = absurd cc
+  open_called (Some (Command.Start i o)) asked a nodes' part board' e q = by (opened h) e
     where
-      by : (t : Bool) → c ≡ pick t (call 2 i (words_of h.versions) o) (refusal 10) → kept a (Some (Command.Start i o)) nodes' part board' c.words ≡ start_line i o s
-      by true e = absurd (not_both (ap (λ (x : Call). eqb x.kind 3) (sym e) ∙ k))
-      by false e = absurd (not_both (ap (λ (x : Call). eqb x.kind 3) (sym e) ∙ k))
-  open_called (Some (Command.Open n w v)) c a nodes' part board' e k q = by (leb n most_cells) refl e
+      by : (t : Bool) → pick {A = Result Call ℕ} t (Ok (Call.Start i o)) (Err 10) ≡ Ok (Call.Open asked) → kept a asked nodes' part board' (words_of asked.versions) ≡ start_line i o s
+      by true e = absurd cc
+      by false e = absurd cc
+  open_called (Some (Command.Open n w v)) asked a nodes' part board' e q = by (leb n most_cells) refl e
     where
-      by : (t : Bool) → leb n most_cells ≡ t → c ≡ pick t (call 3 n (words_of v) no_operation) (refusal 1) → kept a (Some (Command.Open n w v)) nodes' part board' c.words ≡ open_line n w v s
+      by : (t : Bool) → leb n most_cells ≡ t → pick {A = Result Call ℕ} t (Ok (Call.Open (history n w v))) (Err 1) ≡ Ok (Call.Open asked) → kept a asked nodes' part board' (words_of asked.versions) ≡ open_line n w v s
       by true l e =
-          (λ j. kept a (Some (Command.Open n w v)) nodes' part board' (e j).words)
-          ∙ open_line_lem n w v a nodes' part board' l (q ∙ (λ j. open_of (e j).number w (state nodes (take (e j).words versions) board)))
-      by false l e = absurd (not_both (ap (λ (x : Call). eqb x.kind 3) (sym e) ∙ k))
-  open_called None c a nodes' part board' e k q = absurd (not_both (ap (λ (x : Call). eqb x.kind 3) (sym e) ∙ k))
+          let f : asked ≡ history n w v = cc in
+          (λ t. kept a (f t) nodes' part board' (words_of (f t).versions))
+          ∙ open_line_lem n w v a nodes' part board' l (q ∙ (λ t. open_of (f t).cells (f t).workers (state nodes (take (words_of (f t).versions) versions) board)))
+      by false l e = absurd cc
+  open_called None asked a nodes' part board' e q = absurd cc
 
-  pub open_taken : (line : Option Command) (c : Call) (w : ℕ) (a : Accepted) (nodes' part : List ℕ) (board' : List Worker) (t : Turn) → c ≡ call_of line h → eqb c.kind 3 ≡ true → w ≡ crew_of line
-      → after (accepted_of a) (state nodes' part board') ≡ open_of c.number w (state nodes (take c.words versions) board)
-      → t ≡ record { reply = Reply.Accepted a; history = kept_by a line h } → turned t nodes' (part ++ drop c.words versions) board' ≡ line_turn line s
+  pub open_taken : (line : Option Command) (asked : History) (k : ℕ) (a : Accepted) (nodes' part : List ℕ) (board' : List Worker) → call_of line h ≡ Ok (Call.Open asked) → k ≡ words_of asked.versions
+      → after (accepted_of a) (state nodes' part board') ≡ open_of asked.cells asked.workers (state nodes (take k versions) board)
+      → turned (record { reply = Reply.Accepted a; history = kept_by a asked h }) nodes' (part ++ drop k versions) board' ≡ line_turn line s
   unfolding reply_text
-  open_taken line c w a nodes' part board' t e k ew q r =
-      ap (λ (u : Turn). turned u nodes' (part ++ drop c.words versions) board') r
-      ∙ open_called line c a nodes' part board' e k (q ∙ ap (λ (x : ℕ). open_of c.number x (state nodes (take c.words versions) board)) ew)
+  open_taken line asked k a nodes' part board' e l q =
+      ap (kept a asked nodes' part board') l
+      ∙ open_called line asked a nodes' part board' e (q ∙ ap (λ (j : ℕ). open_of asked.cells asked.workers (state nodes (take j versions) board)) l)
 
   -- ---- a refusal
 
-  true_not : {A : Type 0} → true ≡ false → A
-  true_not e = absurd (not_both (sym e))
-
-  refused_called : (line : Option Command) (c : Call) → c ≡ call_of line h → stepping line h ≡ false → eqb c.kind 2 ≡ false → eqb c.kind 3 ≡ false → refuses c.number s ≡ line_turn line s
+  refused_called : (line : Option Command) (k : ℕ) → call_of line h ≡ Err k → stepping line h ≡ false → refuses k s ≡ line_turn line s
   unfolding call_of line_turn step_line start_line open_line
-  refused_called (Some (Command.Step i)) c e k _ _ = (λ j. refuses (e j).number s) ∙ rw k
-  refused_called (Some (Command.Start i o)) c e _ k _ = by (opened h) refl e
+  refused_called (Some (Command.Step i)) k e n = let f : k ≡ 10 = cc in ap (λ (j : ℕ). refuses j s) f ∙ rw n
+  refused_called (Some (Command.Start i o)) k e n = by (opened h) refl e
     where
-      by : (t : Bool) → opened h ≡ t → c ≡ pick t (call 2 i (words_of h.versions) o) (refusal 10) → refuses c.number s ≡ start_line i o s
-      by true q e = true_not (ap (λ (x : Call). eqb x.kind 2) (sym e) ∙ k)
-      by false q e = (λ j. refuses (e j).number s) ∙ rw q
-  refused_called (Some (Command.Open n w v)) c e _ _ k = by (leb n most_cells) refl e
+      by : (t : Bool) → opened h ≡ t → pick {A = Result Call ℕ} t (Ok (Call.Start i o)) (Err 10) ≡ Err k → refuses k s ≡ start_line i o s
+      by true q e = absurd cc
+      by false q e = let f : k ≡ 10 = cc in ap (λ (j : ℕ). refuses j s) f ∙ rw q
+  refused_called (Some (Command.Open n w v)) k e _ = by (leb n most_cells) refl e
     where
-      by : (t : Bool) → leb n most_cells ≡ t → c ≡ pick t (call 3 n (words_of v) no_operation) (refusal 1) → refuses c.number s ≡ open_line n w v s
-      by true q e = true_not (ap (λ (x : Call). eqb x.kind 3) (sym e) ∙ k)
-      by false q e = (λ j. refuses (e j).number s) ∙ rw q
-  refused_called None c e _ _ _ = λ j. refuses (e j).number s
+      by : (t : Bool) → leb n most_cells ≡ t → pick {A = Result Call ℕ} t (Ok (Call.Open (history n w v))) (Err 1) ≡ Err k → refuses k s ≡ open_line n w v s
+      by true q e = absurd cc
+      by false q e = let f : k ≡ 1 = cc in ap (λ (j : ℕ). refuses j s) f ∙ rw q
+  refused_called None k e n = let f : k ≡ 10 = cc in ap (λ (j : ℕ). refuses j s) f
 
-  pub refused_taken : (line : Option Command) (c : Call) (t : Turn) → c ≡ call_of line h → stepping line h ≡ false → eqb c.kind 2 ≡ false → eqb c.kind 3 ≡ false
-      → t ≡ record { reply = Reply.Accepted (Accepted.Refused c.number); history = h } → turned t nodes versions board ≡ line_turn line s
+  pub refused_taken : (line : Option Command) (k : ℕ) → call_of line h ≡ Err k → stepping line h ≡ false
+      → turned (record { reply = Reply.Accepted (Accepted.Refused k); history = h }) nodes versions board ≡ line_turn line s
   unfolding reply_text accepted_text
-  refused_taken line c t e k₁ k₂ k₃ r = ap (λ (u : Turn). turned u nodes versions board) r ∙ refused_called line c e k₁ k₂ k₃
+  refused_taken line k e n = refused_called line k e n

@@ -26,10 +26,6 @@ pub record Ends (chunk : List ℕ) (i e : ℕ) : Type 0 where
   pub bytes : plain (between chunk i e) ≡ true
   pub newline : e < length chunk → get_or chunk e 0 ≡ 10
 
--- the most bytes that an answer takes
-abbrev pub widest : ℕ
-widest = 64
-
 -- what of a line came before the byte at `from`: all that is begun where that is the first byte of a chunk, and else nothing
 abbrev pub before : Begun → ℕ → Part
 before begun from = pick (eqb from 0) (part_of begun) (upto [])

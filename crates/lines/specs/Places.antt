@@ -1,6 +1,6 @@
 -- The places of a chunk: the line that is next, where it begins and ends, and how far the lines before it are served.
 -- Assumes nothing.
-use Rattle.std.specs.Prelude.{◌≡◌, Bool, true, false, ◌&&◌, List, [], ℕ, ◌+◌, ◌*◌, ◌-◌, ◌≤◌, ◌<◌, eqb, leb, length, take, drop, get_or, Option, Some, None}
+use Rattle.std.specs.Prelude.{◌≡◌, ◌&&◌, Option, Some, None, List, [], ℕ, ◌+◌, ◌*◌, ◌-◌, ◌≤◌, ◌<◌, leb, length, take, drop}
 use Rattle.grammar.specs.declared.Command.{Command}
 use Rattle.grammar.specs.Grammar.{line_of}
 use Rattle.lines.specs.declared.Begun.{Begun}
@@ -11,27 +11,21 @@ use Rattle.trie.specs.Values.{progress_of}
 use Rattle.lines.specs.declared.Place.{Place}
 use Rattle.lines.specs.declared.Run.{Run}
 use Rattle.lines.specs.declared.Turn.{Turn}
-use Rattle.lines.specs.declared.short.Short.{Short}
+use Rattle.lines.specs.declared.Step.{Step}
 use Rattle.grammar.specs.Text.{Put, course_text}
-use Rattle.lines.specs.Replies.{reply_text}
+use Rattle.lines.specs.Replies.{reply_text, widest}
 use Rattle.lines.specs.Watch.{Watch, opened}
 use Rattle.lines.specs.Chunks.{line_at, listing, served_of, part_of}
-use Rattle.lines.specs.Feeding.{grown, between, Ends, widest, before}
+use Rattle.lines.specs.Feeding.{grown, between, Ends, before}
 
--- the word "step" and a space stand at i
-abbrev pub is_step : List ℕ → ℕ → Bool
-is_step chunk i =
-    ((eqb (get_or chunk i 0) 115 && eqb (get_or chunk (i + 1) 0) 116) && (eqb (get_or chunk (i + 2) 0) 101 && eqb (get_or chunk (i + 3) 0) 112))
-    && eqb (get_or chunk (i + 4) 0) 32
-
--- the number that a byte stands for as a digit, and 10 for a byte that is none
-abbrev pub digit_of : ℕ → ℕ
-digit_of x = pick (leb 48 x && leb x 57) (x - 48) 10
+-- the number that a byte stands for as a digit
+abbrev pub digit_of : ℕ → Option ℕ
+digit_of x = pick (leb 48 x && leb x 57) (Some (x - 48)) None
 
 -- a short step is the line from i on, and its newline is in the chunk
-abbrev pub Found : List ℕ → ℕ → Short → Type 0
-Found chunk i Short.Not = Unit {0}
-Found chunk i (Short.Step k e) = Ends chunk i e × (e < length chunk) × (line_of (between chunk i e) ≡ Some (Command.Step k))
+abbrev pub Found : List ℕ → ℕ → Option Step → Type 0
+Found chunk i None = Unit {0}
+Found chunk i (Some s) = Ends chunk i s.end × (s.end < length chunk) × (line_of (between chunk i s.end) ≡ Some (Command.Step s.worker))
 
 -- the place of a line that lies whole in the chunk
 pub record Placed (chunk : List ℕ) (from : ℕ) (h : History) (at : ℕ) (p : Place) : Type 0 where
@@ -70,36 +64,32 @@ pub record Closes (begun : Begun) (chunk : List ℕ) (s₀ : Watch) (out₀ : Li
 
 -- ---- runs of steps
 
-abbrev pub run_by : Option Command → Place → Run
-run_by (Some (Command.Step i)) p = record { number = i; from = p.from; end = p.end; filled = p.filled; on = opened p.history }
-run_by (Some (Command.Start i o)) p = record { number = 0; from = p.from; end = p.end; filled = p.filled; on = false }
-run_by (Some (Command.Open n w v)) p = record { number = 0; from = p.from; end = p.end; filled = p.filled; on = false }
-run_by None p = record { number = 0; from = p.from; end = p.end; filled = p.filled; on = false }
+-- the step that a line at a place is, where it steps the history under way
+abbrev pub step_of_line : Option Command → Place → Option Step
+step_of_line (Some (Command.Step i)) p = pick (opened p.history) (Some (record { worker = i; end = p.end })) None
+step_of_line (Some (Command.Start i o)) p = None
+step_of_line (Some (Command.Open n w v)) p = None
+step_of_line None p = None
 
--- the run that the line at a place begins: it is on where the line is a step of the history under way
+-- the run that the line at a place begins
 abbrev pub run_of : Place → Run
-run_of p = run_by p.line p
+run_of p = record { from = p.from; step = step_of_line p.line p; filled = p.filled }
 
--- the run goes on at `from`, where a step's line lies whole in the chunk
-pub record Follows (chunk : List ℕ) (from at : ℕ) (r : Run) : Type 0 where
-  pub begins : r.from ≡ from
-  pub filled : r.filled ≡ at
-  pub step : r.on ≡ true → Ends chunk from r.end × (r.end < length chunk) × (line_of (between chunk from r.end) ≡ Some (Command.Step r.number))
-
--- a step's answer is written, and the run goes on behind its line
-pub record Passes (progress : Progress) (r : Run) (chunk out out' : List ℕ) (q : Run) : Type 0 where
-  pub follows : Follows chunk (r.end + 1) q.filled q
-  pub put : Put (course_text (progress_of progress)) r.filled out out' q.filled
-  pub most : q.filled ≤ r.filled + widest
+-- a step's answer is written, and the run goes on behind its line where a short step lies whole in the chunk
+pub record Passes (progress : Progress) (s : Step) (at : ℕ) (chunk out out' : List ℕ) (q : Run) : Type 0 where
+  pub begins : q.from ≡ s.end + 1
+  pub step : Found chunk q.from q.step
+  pub put : Put (course_text (progress_of progress)) at out out' q.filled
+  pub most : q.filled ≤ at + widest
 
 -- where a run may stand
 pub record Steady (chunk : List ℕ) (r : Run) : Type 0 where
   pub within : r.from ≤ length chunk
   pub room : r.filled ≤ widest * r.from
-  pub ahead : r.on ≡ true → (r.from ≤ r.end) × (r.end < length chunk)
+  pub ahead : (s : Step) → r.step ≡ Some s → (r.from ≤ s.end) × (s.end < length chunk)
 
 -- the lines before a run's step are served, as `Runs` has it for a place
 pub record Ran (begun : Begun) (chunk : List ℕ) (s₀ : Watch) (out₀ : List ℕ) (r : Run) (s : Watch) (out : List ℕ) : Type 0 where
-  pub step : r.on ≡ true → Ends chunk r.from r.end × (line_at (grown (before begun r.from) (between chunk r.from r.end)) ≡ Some (Command.Step r.number))
+  pub step : (t : Step) → r.step ≡ Some t → Ends chunk r.from t.end × (line_at (grown (before begun r.from) (between chunk r.from t.end)) ≡ Some (Command.Step t.worker))
   pub same : served_of (listing (before begun r.from) s (take r.filled out)) (drop r.from chunk) ≡ served_of (listing (part_of begun) s₀ []) chunk
   pub behind : drop r.filled out ≡ drop r.filled out₀

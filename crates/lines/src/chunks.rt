@@ -2,16 +2,18 @@
 // The lines are served in a loop to which the board is lent, so that it is not copied line by line.
 ghost use Rattle.std.specs.Prelude.{◌≡◌, ◌*◌, ◌≤◌, length, take};
 ghost use Rattle.lines.specs.Watch.{watch, Roomy};
-ghost use Rattle.lines.specs.Chunks.{Outcome, serve_of, finish_of};
-ghost use Rattle.lines.specs.Feeding.{widest};
+ghost use Rattle.lines.specs.Chunks.{watched, came, serve_of, finish_of};
+ghost use Rattle.lines.specs.Replies.{widest};
 ghost use Rattle.lines.specs.Places.{Closes};
 
-use crate::keeping::{blank, close};
-use crate::places::{first_place, go_on, history_at, is_ended, next_line, place_after};
-use crate::runs::{first_run, is_on, serve_steps};
+use crate::keeping::close;
+use crate::places::{first_place, go_on, place_after};
+use crate::runs::{first_run, serve_steps};
 use crate::turns::take_turn;
-use crate::{Begun, History, NODE_TABLE, Place, Served, VERSION_TABLE};
-use trie::{MOST_WORKERS, Worker};
+use crate::{
+    ANSWERS, BLANK, Begun, CHUNK, History, Kept, NODE_TABLE, Place, Served, VERSION_TABLE,
+};
+use trie::Worker;
 
 // Serves the lines that end in the chunk.
 fn serve_lines(
@@ -28,96 +30,80 @@ fn serve_lines(
         (watch result.history nodes.new versions.new board.new) out.new }
 {
     let mut p = first_place(begun, history, chunk);
-    while is_ended(p, chunk.len()) {
-        let r = first_run(p);
-        if is_on(r) {
-            let last = serve_steps(chunk, r, history_at(p), nodes, versions, board, out);
-            p = place_after(chunk, last, history_at(p));
+    while p.end < chunk.len() {
+        let run = first_run(p);
+        if run.step.is_some() {
+            let last = serve_steps(chunk, run, p.history, nodes, versions, board, out);
+            p = place_after(chunk, last, p.history);
         } else {
-            let turn = take_turn(next_line(p), history_at(p), nodes, versions, board);
+            let turn = take_turn(p.line, p.history, nodes, versions, board);
             p = go_on(turn, p, chunk, out);
         }
     }
     p
 }
 
-fn served(begun: Begun, p: Place, board: [Worker; MOST_WORKERS]) -> Served
-    ensures { result ≡ record { begun = begun; history = p.history; board = board; filled = p.filled } }
-{
-    let h = p.history;
-    Served {
-        begun: begun,
-        history: h,
-        board: board,
-        filled: p.filled,
-    }
-}
-
 fn serve_bytes(
     chunk: &[u8],
-    begun: Begun,
-    history: History,
-    board: [Worker; MOST_WORKERS],
+    kept: Kept,
     nodes: &mut [u64],
     versions: &mut [u64],
     out: &mut [u8],
 ) -> Served
     requires { Roomy nodes.old versions.old × (widest * length chunk.now ≤ length out.old) }
-    ensures { ◌≡◌ {A = Outcome} (record { begun = result.begun; watch = watch result.history nodes.new versions.new result.board; out = out.new; filled = result.filled })
-        (serve_of begun (watch history nodes.old versions.old board) out.old chunk.now) }
+    ensures { came result nodes.new versions.new out.new ≡ serve_of kept.begun (watched kept nodes.old versions.old) out.old chunk.now }
 {
-    let mut b = board;
-    let p = serve_lines(chunk, begun, history, nodes, versions, &mut b, out);
-    served(close(p, begun, chunk), p, b)
+    let mut board = kept.board;
+    let p = serve_lines(
+        chunk,
+        kept.begun,
+        kept.history,
+        nodes,
+        versions,
+        &mut board,
+        out,
+    );
+    Served {
+        kept: Kept {
+            begun: close(p, kept.begun, chunk),
+            history: p.history,
+            board,
+        },
+        filled: p.filled,
+    }
 }
 
-// Serves the first n bytes of a chunk, of which there are at most 16,384.
+// Serves the first n bytes of a chunk, or all where it has no more.
 pub fn serve(
-    chunk: &[u8; 16384],
+    chunk: &[u8; CHUNK],
     n: usize,
-    begun: Begun,
-    history: History,
-    board: [Worker; MOST_WORKERS],
+    kept: Kept,
     nodes: &mut [u64; NODE_TABLE],
     versions: &mut [u64; VERSION_TABLE],
-    out: &mut [u8; 1048576],
+    out: &mut [u8; ANSWERS],
 ) -> Served
-    ensures { ◌≡◌ {A = Outcome} (record { begun = result.begun; watch = watch result.history nodes.new versions.new result.board; out = out.new; filled = result.filled })
-        (serve_of begun (watch history nodes.old versions.old board) out.old (take n chunk.now)) }
+    ensures { came result nodes.new versions.new out.new ≡ serve_of kept.begun (watched kept nodes.old versions.old) out.old (take n chunk.now) }
 {
-    if n <= 16384 {
-        return serve_bytes(first(chunk, n), begun, history, board, nodes, versions, out);
-    }
-    serve_bytes(chunk, begun, history, board, nodes, versions, out)
-}
-
-// The first n bytes.
-fn first(chunk: &[u8], n: usize) -> &[u8]
-    requires { n ≤ length chunk.now }
-    ensures { result.now ≡ take n chunk.now }
-{
-    &chunk[..n]
+    serve_bytes(&chunk[..n.min(CHUNK)], kept, nodes, versions, out)
 }
 
 // The input has ended, and a line that is begun ends with it.
 pub fn finish(
-    begun: Begun,
-    history: History,
-    board: [Worker; MOST_WORKERS],
+    kept: Kept,
     nodes: &mut [u64; NODE_TABLE],
     versions: &mut [u64; VERSION_TABLE],
-    out: &mut [u8; 1048576],
+    out: &mut [u8; ANSWERS],
 ) -> Served
-    ensures { ◌≡◌ {A = Outcome} (record { begun = result.begun; watch = watch result.history nodes.new versions.new result.board; out = out.new; filled = result.filled })
-        (finish_of begun (watch history nodes.old versions.old board) out.old) }
+    ensures { came result nodes.new versions.new out.new ≡ finish_of kept.begun (watched kept nodes.old versions.old) out.old }
 {
-    if begun.held == 0 {
+    if kept.begun.held == 0 {
         return Served {
-            begun: blank(),
-            history: history,
-            board: board,
+            kept: Kept {
+                begun: BLANK,
+                ..kept
+            },
             filled: 0,
         };
     }
-    serve_bytes(b"\n", begun, history, board, nodes, versions, out)
+    serve_bytes(b"\n", kept, nodes, versions, out)
 }

@@ -7,22 +7,21 @@ ghost use Rattle.lines.specs.Calling.{words_of};
 use crate::{History, LISTED_CELLS, LISTED_VERSIONS};
 use trie::{MOST_WORKERS, VERSION_WORDS};
 
+#[tactic(auto, unfolding(crate::specs::Watch::opened))]
 pub(crate) fn is_open(h: History) -> bool
     ensures { result ≡ opened h }
 {
-    let n = h.cells;
-    let w = h.workers;
-    let v = h.versions;
-    if !tables::is_allowed(n) {
+    if !tables::is_allowed(h.cells) {
         return false;
     }
-    if LISTED_CELLS < n {
-        return false;
-    }
-    ((1 <= w) & (w <= MOST_WORKERS as u64)) & ((2 * n - 1 <= v) & (v <= LISTED_VERSIONS))
+    h.cells <= LISTED_CELLS
+        && 1 <= h.workers
+        && h.workers <= MOST_WORKERS as u64
+        && 2 * h.cells - 1 <= h.versions
+        && h.versions <= LISTED_VERSIONS
 }
 
-// The words that are lent to an open; none where V is more than there are here, so that it is refused with 3.
+// The words that are lent where V is v; none where that is more than there are here, so that an open of it is refused with 3.
 pub(crate) fn words(v: u64) -> usize
     ensures { result ≡ words_of v }
 {
@@ -31,23 +30,4 @@ pub(crate) fn words(v: u64) -> usize
     } else {
         0
     }
-}
-
-// The words that are lent to the calls of a history.
-pub(crate) fn lent_words(h: History) -> usize
-    ensures { result ≡ words_of h.versions }
-{
-    words(h.versions)
-}
-
-pub(crate) fn cells_of(h: History) -> u64
-    ensures { result ≡ h.cells }
-{
-    h.cells
-}
-
-pub(crate) fn workers_of(h: History) -> u64
-    ensures { result ≡ h.workers }
-{
-    h.workers
 }

@@ -14,7 +14,7 @@ mod turns;
 pub use chunks::{finish, serve};
 pub use grammar::LONGEST_LINE;
 use grammar::Command;
-use trie::{Accepted, MOST_WORKERS, Operation, Progress, Worker};
+use trie::{Accepted, MOST_WORKERS, Operation, Phase, Progress, Worker};
 
 // The most cells and the most versions of a history here, fewer than elsewhere; and tables with room for them.
 pub(crate) const LISTED_CELLS: u64 = 16;
@@ -25,6 +25,14 @@ pub const NODE_TABLE: usize = 32;
 
 pub const VERSION_TABLE: usize = 5000;
 
+// The most bytes of a chunk, and of a buffer with room for an answer to every byte.
+pub const CHUNK: usize = 16384;
+
+pub const ANSWERS: usize = WIDEST * CHUNK;
+
+// The most bytes that an answer takes.
+pub(crate) const WIDEST: usize = 64;
+
 // The N, W and V of the history that is under way; zeros before the first accepted open.
 #[derive(Clone, Copy)]
 pub struct History {
@@ -33,7 +41,8 @@ pub struct History {
     pub versions: u64,
 }
 
-// The bytes of a line whose end has not come yet, with zeros behind them; 41 held stands for more than 40.
+// The bytes of a line whose end has not come yet, with zeros behind them; more held than the longest line has are too many for any command.
+// Callers of `serve` and `finish` may lend any `held`, whose contracts say what it stands for, so a line too long is a number here and no case of its own.
 #[derive(Clone, Copy)]
 pub struct Begun {
     pub bytes: [u8; LONGEST_LINE],
@@ -47,13 +56,11 @@ pub enum Reply {
     Progress(Progress),
 }
 
-// The call that a line makes: 2 a start, 3 an open; or 0 and the number of its refusal.
+// The call that a line makes: a start with its worker, or an open with the N, W and V that it asks for.
 #[derive(Clone, Copy)]
-pub struct Call {
-    pub kind: u64,
-    pub number: u64,
-    pub words: usize,
-    pub operation: Operation,
+pub enum Call {
+    Start(u64, Operation),
+    Open(History),
 }
 
 // A line's answer, with the history after it.
@@ -73,22 +80,50 @@ pub struct Place {
     pub filled: usize,
 }
 
-// A step among the lines of a chunk: its worker, where its line begins and ends, and where the text of the answers ends.
-// Where `on` is false the run of steps has ended, and the next line begins at `from`.
+// A step among the lines of a chunk: its worker, and where its line ends.
 #[derive(Clone, Copy)]
-pub struct Run {
-    pub number: u64,
-    pub from: usize,
+pub struct Step {
+    pub worker: u64,
     pub end: usize,
-    pub filled: usize,
-    pub on: bool,
 }
 
-// What is kept from one chunk to the next, and where the text of the answers ends.
+// A run of steps: where its next line begins, the step that this line is, and where the text of the answers ends.
+// Where there is no step the run has ended.
 #[derive(Clone, Copy)]
-pub struct Served {
+pub struct Run {
+    pub from: usize,
+    pub step: Option<Step>,
+    pub filled: usize,
+}
+
+// What is kept from one chunk to the next: the line that is begun, the history under way, and the board.
+#[derive(Clone, Copy)]
+pub struct Kept {
     pub begun: Begun,
     pub history: History,
     pub board: [Worker; MOST_WORKERS],
+}
+
+// No line is begun.
+pub(crate) const BLANK: Begun = Begun {
+    bytes: [0u8; LONGEST_LINE],
+    held: 0,
+};
+
+// What is kept before the first chunk: no line is begun, no history is under way, and every worker is idle.
+pub const AT_START: Kept = Kept {
+    begun: BLANK,
+    history: History {
+        cells: 0,
+        workers: 0,
+        versions: 0,
+    },
+    board: [Worker { phase: Phase::Idle }; MOST_WORKERS],
+};
+
+// What is kept behind a chunk, and where the text of the answers ends.
+#[derive(Clone, Copy)]
+pub struct Served {
+    pub kept: Kept,
     pub filled: usize,
 }

@@ -1,28 +1,31 @@
 // Where the next line of a chunk begins and ends, and which line it is.
 // A place also carries the history before the line and how much text of the answers there is.
-ghost use Rattle.std.specs.Prelude.{◌≡◌, ◌+◌, ◌≤◌, ◌<◌, ltb, length};
-ghost use Rattle.lines.specs.Feeding.{Ends, widest};
+ghost use Rattle.std.specs.Prelude.{◌≡◌, ◌==◌, position, ◌+◌, ◌≤◌, ◌<◌, ltb, length};
+ghost use Rattle.lines.specs.Replies.{widest};
+ghost use Rattle.lines.specs.Feeding.{Ends};
 ghost use Rattle.lines.specs.Places.{Placed, First, Goes};
 
 use crate::keeping::{begun_line, keep};
-use crate::short::{Short, short_step};
+use crate::short::short_step;
 use crate::text::put_reply;
 use crate::{Begun, History, Place, Run, Turn};
 use grammar::Command;
+
+fn first_newline(bytes: &[u8]) -> Option<usize>
+    ensures { result ≡ position (λ b. b == 10) bytes.now }
+{
+    bytes.iter().position(|&b| b == b'\n')
+}
 
 // Where the line ends that is at `from`.
 fn line_end(chunk: &[u8], from: usize) -> usize
     requires { from ≤ length chunk.now }
     ensures { Ends chunk.now from result }
 {
-    let mut i = from;
-    while i < chunk.len() {
-        if chunk[i] == 10 {
-            return i;
-        }
-        i += 1;
+    match first_newline(&chunk[from..]) {
+        Some(length) => from + length,
+        None => chunk.len(),
     }
-    i
 }
 
 // The line that begins at `from`, whatever it is.
@@ -33,10 +36,10 @@ fn whole_line(chunk: &[u8], from: usize, h: History, filled: usize) -> Place
     let e = line_end(chunk, from);
     Place {
         line: grammar::parse(&chunk[from..e]),
-        from: from,
+        from,
         end: e,
         history: h,
-        filled: filled,
+        filled,
     }
 }
 
@@ -46,14 +49,14 @@ fn place_at(chunk: &[u8], from: usize, h: History, filled: usize) -> Place
     ensures { Placed chunk.now from h filled result }
 {
     match short_step(chunk, from) {
-        Short::Step(k, e) => Place {
-            line: Some(Command::Step(k)),
-            from: from,
-            end: e,
+        Some(step) => Place {
+            line: Some(Command::Step(step.worker)),
+            from,
+            end: step.end,
             history: h,
-            filled: filled,
+            filled,
         },
-        Short::Not => whole_line(chunk, from, h, filled),
+        None => whole_line(chunk, from, h, filled),
     }
 }
 
@@ -62,13 +65,8 @@ pub(crate) fn first_place(begun: Begun, h: History, chunk: &[u8]) -> Place
     ensures { First begun h chunk.now result }
 {
     let e = line_end(chunk, 0);
-    let old = begun.bytes;
-    let held = begun.held;
-    let line = keep(old, held, &chunk[..e]);
-    let bytes = line.bytes;
-    let length = line.held;
     Place {
-        line: begun_line(bytes, length),
+        line: begun_line(keep(begun, &chunk[..e])),
         from: 0,
         end: e,
         history: h,
@@ -76,33 +74,13 @@ pub(crate) fn first_place(begun: Begun, h: History, chunk: &[u8]) -> Place
     }
 }
 
-pub(crate) fn is_ended(p: Place, length: usize) -> bool
-    ensures { result ≡ ltb p.end length }
-{
-    p.end < length
-}
-
-pub(crate) fn next_line(p: Place) -> Option<Command>
-    ensures { result ≡ p.line }
-{
-    p.line
-}
-
-pub(crate) fn history_at(p: Place) -> History
-    ensures { result ≡ p.history }
-{
-    p.history
-}
-
 // The answer is written, and the next line read.
 pub(crate) fn go_on(turn: Turn, p: Place, chunk: &[u8], out: &mut [u8]) -> Place
     requires { (p.end < length chunk.now) × (p.filled + widest ≤ length out.old) }
     ensures { Goes turn p chunk.now out.old out.new result }
 {
-    let h = turn.history;
-    let reply = turn.reply;
-    let filled = put_reply(reply, out, p.filled);
-    place_at(chunk, p.end + 1, h, filled)
+    let filled = p.filled + put_reply(turn.reply, &mut out[p.filled..]);
+    place_at(chunk, p.end + 1, turn.history, filled)
 }
 
 // The place behind a run.
@@ -110,7 +88,5 @@ pub(crate) fn place_after(chunk: &[u8], r: Run, h: History) -> Place
     requires { r.from ≤ length chunk.now }
     ensures { Placed chunk.now r.from h r.filled result }
 {
-    let from = r.from;
-    let filled = r.filled;
-    whole_line(chunk, from, h, filled)
+    whole_line(chunk, r.from, h, r.filled)
 }

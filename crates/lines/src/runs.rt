@@ -1,76 +1,55 @@
 // A run of steps: lines in a row that step the history under way.
 // What a step needs to know of the history is looked up once for all of them.
-ghost use Rattle.std.specs.Prelude.{◌≡◌, true, false, List, ℕ, ◌+◌, ◌*◌, ◌≤◌, ◌<◌, length};
+ghost use Rattle.std.specs.Prelude.{◌≡◌, true, IsSome, List, ℕ, ◌+◌, ◌*◌, ◌≤◌, ◌<◌, length};
 ghost use Rattle.lines.specs.declared.Begun.{Begun};
 ghost use Rattle.lines.specs.Watch.{Watch, watch, opened, Roomy};
-ghost use Rattle.lines.specs.Feeding.{widest};
-ghost use Rattle.lines.specs.Places.{run_of, Follows, Passes, Steady, Ran};
+ghost use Rattle.lines.specs.Replies.{widest};
+ghost use Rattle.lines.specs.Places.{step_of_line, run_of, Passes, Steady, Ran};
 
-use crate::histories::{cells_of, is_open, lent_words, workers_of};
-use crate::short::{Short, short_step};
+use crate::histories::{is_open, words};
+use crate::short::short_step;
 use crate::text::put_progress;
-use crate::{History, Place, Run};
+use crate::{History, Place, Run, Step};
 use grammar::Command;
 use trie::{Progress, Worker};
 
-// The run that the line at a place begins: it is on where the line is a step of the history under way.
+// The step that the line at a place is, where it steps the history under way.
+fn first_step(p: Place) -> Option<Step>
+    ensures { result ≡ step_of_line p.line p }
+{
+    let Some(Command::Step(worker)) = p.line else {
+        return None;
+    };
+    if is_open(p.history) {
+        Some(Step { worker, end: p.end })
+    } else {
+        None
+    }
+}
+
+// The run that the line at a place begins.
 pub(crate) fn first_run(p: Place) -> Run
     ensures { result ≡ run_of p }
 {
-    let line = p.line;
-    let h = p.history;
-    let Some(command) = line else {
-        return run(0, p.from, p.end, p.filled, false);
-    };
-    match command {
-        Command::Step(i) => run(i, p.from, p.end, p.filled, is_open(h)),
-        Command::Start(_, _) => run(0, p.from, p.end, p.filled, false),
-        Command::Open(_, _, _) => run(0, p.from, p.end, p.filled, false),
-    }
-}
-
-fn run(number: u64, from: usize, end: usize, filled: usize, on: bool) -> Run
-    ensures { result ≡ record { number = number; from = from; end = end; filled = filled; on = on } }
-{
     Run {
-        number: number,
-        from: from,
-        end: end,
-        filled: filled,
-        on: on,
+        from: p.from,
+        step: first_step(p),
+        filled: p.filled,
     }
 }
 
-// The run goes on where a short step is at `from`.
-fn next_step(chunk: &[u8], from: usize, filled: usize) -> Run
-    requires { from ≤ length chunk.now }
-    ensures { Follows chunk.now from filled result }
+// A step's answer is written, and the line behind it looked at: the run goes on where that is a short step.
+fn pass_step(progress: Progress, step: Step, filled: usize, chunk: &[u8], out: &mut [u8]) -> Run
+    requires { (step.end < length chunk.now) × (filled + widest ≤ length out.old) }
+    ensures { Passes progress step filled chunk.now out.old out.new result }
 {
-    match short_step(chunk, from) {
-        Short::Step(k, e) => run(k, from, e, filled, true),
-        Short::Not => run(0, from, from, filled, false),
+    let filled = filled + put_progress(progress, &mut out[filled..]);
+    let from = step.end + 1;
+    Run {
+        from,
+        step: short_step(chunk, from),
+        filled,
     }
-}
-
-// A step's answer is written, and the line behind it looked at.
-fn pass_step(progress: Progress, r: Run, chunk: &[u8], out: &mut [u8]) -> Run
-    requires { (r.end < length chunk.now) × (r.filled + widest ≤ length out.old) }
-    ensures { Passes progress r chunk.now out.old out.new result }
-{
-    let filled = put_progress(progress, out, r.filled);
-    next_step(chunk, r.end + 1, filled)
-}
-
-pub(crate) fn is_on(r: Run) -> bool
-    ensures { result ≡ r.on }
-{
-    r.on
-}
-
-fn stepped_worker(r: Run) -> u64
-    ensures { result ≡ r.number }
-{
-    r.number
 }
 
 // Serves a run of steps: what a step needs to know of the history is looked up once.
@@ -84,18 +63,23 @@ pub(crate) fn serve_steps(
     out: &mut [u8],
 ) -> Run
     requires { Roomy nodes.old versions.old × (widest * length chunk.now ≤ length out.old) × (opened h ≡ true) × Steady chunk.now first }
-    ensures { Steady chunk.now result × (result.on ≡ false) × (first.on ≡ true → first.from < result.from)
+    ensures { Steady chunk.now result × (result.step ≡ None) × (IsSome first.step → first.from < result.from)
         × ((begun : Begun) (s₀ : Watch) (out₀ : List ℕ)
         → Ran begun chunk.now s₀ out₀ first (watch h nodes.old versions.old board.old) out.old
         → Ran begun chunk.now s₀ out₀ result (watch h nodes.new versions.new board.new) out.new) }
 {
-    let n = cells_of(h);
-    let w = workers_of(h);
-    let lent = lent_words(h);
-    let mut r = first;
-    while is_on(r) {
-        let progress = board::step(n, w, stepped_worker(r), nodes, &mut versions[..lent], board);
-        r = pass_step(progress, r, chunk, out);
+    let lent = words(h.versions);
+    let mut run = first;
+    while let Some(step) = run.step {
+        let progress = board::step(
+            h.cells,
+            h.workers,
+            step.worker,
+            nodes,
+            &mut versions[..lent],
+            board,
+        );
+        run = pass_step(progress, step, run.filled, chunk, out);
     }
-    r
+    run
 }

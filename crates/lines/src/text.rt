@@ -1,111 +1,99 @@
-// Answers as lines of text, put into a lent buffer at an index.
+// Answers as lines of text, put at the start of a lent buffer; what is put answers how long it is.
 // Nothing is written but the text itself, so that texts can follow one another in one buffer.
 ghost use Rattle.std.specs.Prelude.{◌++◌, ◌+◌, ◌≤◌, length};
-ghost use Rattle.trie.specs.Values.{level, sums, value_of, accepted_of, progress_of};
-ghost use Rattle.grammar.specs.Text.{Put, decimal, refused_text, done_text, accepted_text, course_text};
-ghost use Rattle.lines.specs.Replies.{reply_text};
+ghost use Rattle.trie.specs.Values.{sums, value_of, accepted_of, progress_of};
+ghost use Rattle.grammar.specs.Text.{Put, decimal, newline, done_text, accepted_text, course_text};
+ghost use Rattle.lines.specs.Replies.{reply_text, widest, Answers};
 
 use crate::Reply;
 use trie::{Accepted, Answer, Progress};
 
-// Puts text into out at `at`, and answers where it ends.
-pub(crate) fn put(text: &[u8], out: &mut [u8], at: usize) -> usize
-    requires { at + length text.now ≤ length out.old }
-    ensures { Put text.now at out.old out.new result }
+// The most digits that a number has.
+const DIGITS: usize = 20;
+
+fn put(text: &[u8], out: &mut [u8]) -> usize
+    requires { length text.now ≤ length out.old }
+    ensures { Put text.now 0 out.old out.new result }
 {
-    let mut i = 0;
-    while i < text.len() {
-        out[at + i] = text[i];
-        i += 1;
-    }
-    at + i
+    out[..text.len()].copy_from_slice(text);
+    text.len()
 }
 
 // Puts a word and a number behind it.
-fn spell(word: &[u8], v: u64, out: &mut [u8], at: usize) -> usize
-    requires { (length word.now ≤ 8) × (at + 28 ≤ length out.old) }
-    ensures put { Put (word.now ++ decimal v) at out.old out.new result }
-    ensures upper_bound { result ≤ at + 28 }
+fn spell(word: &[u8], v: u64, out: &mut [u8]) -> usize
+    requires { (length word.now ≤ 8) × (28 ≤ length out.old) }
+    ensures put { Put (word.now ++ decimal v) 0 out.old out.new result }
+    ensures upper_bound { result ≤ 28 }
 {
-    let mut digits = [0u8; 20];
+    let mut digits = [0u8; DIGITS];
     let k = io::decimal(v, &mut digits);
-    let a = put(word, out, at);
-    put(&digits[..k], out, a)
+    let a = put(word, out);
+    a + put(&digits[..k], &mut out[a..])
 }
 
-fn put_refused(number: u64, out: &mut [u8], at: usize) -> usize
-    requires { at + 64 ≤ length out.old }
-    ensures put { Put (refused_text number) at out.old out.new result }
-    ensures upper_bound { result ≤ at + 64 }
+// A word, a number and the line's end.
+fn spell_line(word: &[u8], v: u64, out: &mut [u8]) -> usize
+    requires { (length word.now ≤ 8) × (29 ≤ length out.old) }
+    ensures put { Put ((word.now ++ decimal v) ++ newline) 0 out.old out.new result }
+    ensures upper_bound { result ≤ 29 }
 {
-    let a = spell(b"refused ", number, out, at);
-    put(b"\n", out, a)
+    let a = spell(word, v, out);
+    a + put(b"\n", &mut out[a..])
 }
 
-fn put_number(v: u64, out: &mut [u8], at: usize) -> usize
-    requires { at + 64 ≤ length out.old }
-    ensures put { Put (done_text (level v)) at out.old out.new result }
-    ensures upper_bound { result ≤ at + 64 }
+fn put_sums(count: u64, energy: u64, out: &mut [u8]) -> usize
+    requires { widest ≤ length out.old }
+    ensures { Answers (done_text (sums count energy)) out.old out.new result }
 {
-    let a = spell(b"done ", v, out, at);
-    put(b"\n", out, a)
+    let a = spell(b"done ", count, out);
+    a + spell_line(b" ", energy, &mut out[a..])
 }
 
-fn put_sums(count: u64, energy: u64, out: &mut [u8], at: usize) -> usize
-    requires { at + 64 ≤ length out.old }
-    ensures put { Put (done_text (sums count energy)) at out.old out.new result }
-    ensures upper_bound { result ≤ at + 64 }
-{
-    let a = spell(b"done ", count, out, at);
-    let b = spell(b" ", energy, out, a);
-    put(b"\n", out, b)
-}
-
-fn put_answer(answer: Answer, out: &mut [u8], at: usize) -> usize
-    requires { at + 64 ≤ length out.old }
-    ensures put { Put (done_text (value_of answer)) at out.old out.new result }
-    ensures upper_bound { result ≤ at + 64 }
+#[tactic(auto, unfolding(grammar::specs::Text::done_text, grammar::specs::Text::value_text))]
+fn put_answer(answer: Answer, out: &mut [u8]) -> usize
+    requires { widest ≤ length out.old }
+    ensures { Answers (done_text (value_of answer)) out.old out.new result }
 {
     match answer {
-        Answer::Yes => put(b"done yes\n", out, at),
-        Answer::No => put(b"done no\n", out, at),
-        Answer::None => put(b"done none\n", out, at),
-        Answer::Level(level) => put_number(level.0, out, at),
-        Answer::Cell(k) => put_number(k, out, at),
-        Answer::Sums(count, energy) => put_sums(count, energy.0, out, at),
+        Answer::Yes => put(b"done yes\n", out),
+        Answer::No => put(b"done no\n", out),
+        Answer::None => put(b"done none\n", out),
+        Answer::Level(level) => spell_line(b"done ", level.0, out),
+        Answer::Cell(k) => spell_line(b"done ", k, out),
+        Answer::Sums(count, energy) => put_sums(count, energy.0, out),
     }
 }
 
-pub(crate) fn put_accepted(accepted: Accepted, out: &mut [u8], at: usize) -> usize
-    requires { at + 64 ≤ length out.old }
-    ensures put { Put (accepted_text (accepted_of accepted)) at out.old out.new result }
-    ensures upper_bound { result ≤ at + 64 }
+#[tactic(auto, unfolding(grammar::specs::Text::accepted_text))]
+fn put_accepted(accepted: Accepted, out: &mut [u8]) -> usize
+    requires { widest ≤ length out.old }
+    ensures { Answers (accepted_text (accepted_of accepted)) out.old out.new result }
 {
     match accepted {
-        Accepted::Refused(number) => put_refused(number, out, at),
-        Accepted::Ok => put(b"ok\n", out, at),
+        Accepted::Refused(number) => spell_line(b"refused ", number, out),
+        Accepted::Ok => put(b"ok\n", out),
     }
 }
 
-pub(crate) fn put_progress(progress: Progress, out: &mut [u8], at: usize) -> usize
-    requires { at + 64 ≤ length out.old }
-    ensures put { Put (course_text (progress_of progress)) at out.old out.new result }
-    ensures upper_bound { result ≤ at + 64 }
+#[tactic(auto, unfolding(grammar::specs::Text::course_text))]
+pub(crate) fn put_progress(progress: Progress, out: &mut [u8]) -> usize
+    requires { widest ≤ length out.old }
+    ensures { Answers (course_text (progress_of progress)) out.old out.new result }
 {
     match progress {
-        Progress::Refused(number) => put_refused(number, out, at),
-        Progress::On => put(b"on\n", out, at),
-        Progress::Done(answer) => put_answer(answer, out, at),
+        Progress::Refused(number) => spell_line(b"refused ", number, out),
+        Progress::On => put(b"on\n", out),
+        Progress::Done(answer) => put_answer(answer, out),
     }
 }
 
-pub(crate) fn put_reply(reply: Reply, out: &mut [u8], at: usize) -> usize
-    requires { at + 64 ≤ length out.old }
-    ensures put { Put (reply_text reply) at out.old out.new result }
-    ensures upper_bound { result ≤ at + 64 }
+#[tactic(auto, unfolding(crate::specs::Replies::reply_text))]
+pub(crate) fn put_reply(reply: Reply, out: &mut [u8]) -> usize
+    requires { widest ≤ length out.old }
+    ensures { Answers (reply_text reply) out.old out.new result }
 {
     match reply {
-        Reply::Accepted(accepted) => put_accepted(accepted, out, at),
-        Reply::Progress(progress) => put_progress(progress, out, at),
+        Reply::Accepted(accepted) => put_accepted(accepted, out),
+        Reply::Progress(progress) => put_progress(progress, out),
     }
 }

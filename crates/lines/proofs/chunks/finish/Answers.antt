@@ -1,11 +1,11 @@
--- `lines::chunks::finish` meets its contract.
+-- Where no byte is held there is no line to end, and else it ends as by a newline.
 -- Assumes nothing.
-use mathlib.Core.Path.{◌∙◌}
+use Rattle.std.proofs.Common.{◌∙◌}
 use Rattle.lines.proofs.Outcomes.{finish_none, finish_line}
 use Rattle.lines.proofs.chunks.finish.Goals as goal
 
-pub returns-then-begun-eq0 : goal.returns-then-begun-eq0
-returns-then-begun-eq0 c = finish_none c.args.begun _ _ _ c.if-begun-eq0.true c.blank.ensures
+pub returns-then-kept-eq0 : goal.returns-then-kept-eq0
+returns-then-kept-eq0 c = finish_none c.args.kept.begun _ _ c.if-kept-eq0.true
 
 pub returns : goal.returns
-returns c = c.serve_bytes.ensures ∙ finish_line c.args.begun _ _ c.if-begun-eq0.false
+returns c = c.serve_bytes.ensures ∙ finish_line c.args.kept.begun _ _ c.if-kept-eq0.false

@@ -1,20 +1,13 @@
 -- The lines that end in the chunk are served, and the line behind them is kept.
 -- Assumes nothing.
-use Rattle.std.proofs.Common.{List, ℕ, ◌∙◌, ap, arith}
-use Rattle.lines.specs.declared.Served.{Served}
+use Rattle.std.proofs.Common.{arith}
 use Rattle.lines.specs.Watch.{watch}
-use Rattle.lines.specs.Chunks.{Outcome}
 use Rattle.lines.proofs.Outcomes.{closes_all}
 use Rattle.lines.proofs.chunks.serve_bytes.Goals as goal
-
--- what is served, with what was lent
-abbrev came : List ℕ → List ℕ → List ℕ → Served → Outcome
-came nodes versions out x = record { begun = x.begun; watch = watch x.history nodes versions x.board; out = out; filled = x.filled }
 
 pub returns : goal.returns
 returns c =
     let p = c.serve_lines-p.result in
     let after = c.serve_lines-p.new in
-    ap (came after.nodes after.versions after.out) c.served.ensures
-    ∙ closes_all c.args.begun (watch c.args.history c.args.nodes.now c.args.versions.now c.args.board) c.args.out.now c.args.chunk.now p (watch p.history after.nodes after.versions after.board) after.out c.close.result
+    closes_all c.args.kept.begun (watch c.args.kept.history c.args.nodes.now c.args.versions.now c.args.kept.board) c.args.out.now c.args.chunk.now p (watch p.history after.nodes after.versions after.board) after.out c.close.result
     c.serve_lines-p.ensures (omega (arith, c.requires.1, c.serve_lines-p.auto.out)) c.close.ensures

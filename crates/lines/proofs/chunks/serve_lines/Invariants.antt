@@ -5,9 +5,9 @@ use Rattle.lines.specs.Watch.{watch}
 use Rattle.lines.specs.Places.{Runs}
 use Rattle.lines.proofs.chunks.serve_lines.Given as goal
 
-abbrev pub invariant-loop-r : goal.invariant-loop-r
-invariant-loop-r l = Runs l.fn.begun l.chunk (watch l.fn.history l.initial.nodes l.initial.versions l.initial.board) l.initial.out l.p (watch l.p.history l.nodes l.versions l.board) l.out
+abbrev pub invariant-loop-p : goal.invariant-loop-p
+invariant-loop-p l = Runs l.fn.begun l.chunk (watch l.fn.history l.initial.nodes l.initial.versions l.initial.board) l.initial.out l.p (watch l.p.history l.nodes l.versions l.board) l.out
     × (length l.nodes ≡ length l.initial.nodes) × (length l.versions ≡ length l.initial.versions) × (length l.out ≡ length l.initial.out)
 
-abbrev pub decreases-loop-r : goal.decreases-loop-r
-decreases-loop-r l = length l.chunk - l.p.from
+abbrev pub decreases-loop-p : goal.decreases-loop-p
+decreases-loop-p l = length l.chunk - l.p.from

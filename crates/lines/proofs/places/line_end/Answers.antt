@@ -1,18 +1,20 @@
--- `lines::places::line_end` meets its contract. No byte passed is a newline.
+-- `lines::places::line_end` meets its contract.
 -- Assumes nothing.
-use native.Mathlib.Omega.{arith}
-use Rattle.lines.proofs.Feeds.{plain_none, plain_next}
+use Rattle.std.proofs.Common.{sym, ap, ◌∙◌, ◌-◌, arith, length, drop, length-drop}
+use lib.Seq.{take_all}
+use Rattle.std.specs.List.{position}
+use lib.Dec.{eqb}
+use Rattle.lines.proofs.Feeds.{ends_first, ends_none}
 use Rattle.lines.proofs.places.line_end.Goals as goal
 
-pub loop-i-init : goal.loop-i-init
-loop-i-init c = (omega arith, omega arith, plain_none c.args.chunk.now c.args.from)
+pub returns-in-Some : goal.returns-in-Some
+returns-in-Some c =
+    let chunk = c.args.chunk.now in
+    let rest = take_all (length chunk - c.args.from) (drop c.args.from chunk) (omega (arith, length-drop c.args.from chunk)) in
+    ends_first chunk c.args.from c.requires c.in-Some.length (ap (position (λ b. eqb b 10)) (sym rest) ∙ sym c.first_newline.ensures ∙ c.in-Some.is)
 
-pub returns-then-chunk-i-eq10 : goal.returns-then-chunk-i-eq10
-returns-then-chunk-i-eq10 c = record { onward = c.loop-i.invariant.0; within = c.loop-i.invariant.1; bytes = c.loop-i.invariant.2; newline = λ _. c.if-chunk-i-eq10.true }
-
-pub loop-i-preserved : goal.loop-i-preserved
-loop-i-preserved c =
-    (omega arith, omega arith, plain_next c.args.chunk.now c.args.from c.loop-i.i c.loop-i.invariant.0 c.loop-i-test.true c.loop-i.invariant.2 c.if-chunk-i-eq10.false)
-
-pub returns : goal.returns
-returns c = record { onward = c.loop-i.invariant.0; within = c.loop-i.invariant.1; bytes = c.loop-i.invariant.2; newline = λ l. absurd (omega arith) }
+pub returns-in-None : goal.returns-in-None
+returns-in-None c =
+    let chunk = c.args.chunk.now in
+    let rest = take_all (length chunk - c.args.from) (drop c.args.from chunk) (omega (arith, length-drop c.args.from chunk)) in
+    ends_none chunk c.args.from c.requires (ap (position (λ b. eqb b 10)) (sym rest) ∙ sym c.first_newline.ensures ∙ c.in-None.is)

@@ -1,25 +1,23 @@
--- `lines::short::short_step` meets its contract.
+-- The word stands at the line's start; behind it one digit and a newline, or two.
 -- Assumes nothing.
-use mathlib.Core.Path.{sym, ◌∙◌}
-use mathlib.Core.Bool.{not}
-use Prim.Native.Nat.{◌+◌}
-use native.Mathlib.Omega.{arith}
-use lib.Dec.{eqb}
-use lib.ListN.{get_or}
-use Rattle.lines.proofs.Shorts.{digit_most, end_most, short_found}
+use Rattle.std.proofs.Common.{◌≡◌, ◌+◌, ◌-◌, ◌≤◌, [], ◌∷◌, sym, ap, ◌∙◌, arith, length, take, drop, length-drop}
+use lib.Seq.{take_all}
+use Rattle.std.proofs.lemmas.Slice.Eq.{starts_is}
+use Rattle.std.proofs.lemmas.Bool.Decides.{Decides-eqb}
+use Rattle.lines.proofs.Shorts.{found_one, found_two}
 use Rattle.lines.proofs.short.short_step.Goals as goal
-
-pub bounds-chunk-e : goal.bounds-chunk-e
-bounds-chunk-e c =
-    omega (arith, end_most (not (eqb (get_or c.args.chunk.now (c.args.i + 6) 0) 10)) c.args.i c.short_end-e.result c.short_end-e.ensures)
-
-pub number-requires : goal.number-requires
-number-requires c =
-    (digit_most c.wide.result c.digit-tens.result c.digit-tens.ensures, digit_most c.wide-2.result c.digit-ones.result c.digit-ones.ensures)
+use Rattle.lines.proofs.short.short_step.Goals.{in-Some, in-None}
 
 pub returns : goal.returns
 returns c =
-    let short_end = c.short_end-e in
-    short_found c.args.chunk.now c.args.i (omega arith) (sym c.is_step.ensures ∙ c.if-not-is_step.false) (not (eqb (get_or c.args.chunk.now (c.args.i + 6) 0) 10))
-    c.wide.result c.wide-2.result c.digit-tens.result c.digit-ones.result c.number.result short_end.result c.wide.ensures c.digit-tens.ensures c.if-tens-gt9.false c.wide-2.ensures
-    c.digit-ones.ensures short_end.ensures c.if-chunk-e-ne10.false c.if-ones-two.false c.number.ensures
+    let chunk = c.args.chunk.now in
+    let i = c.args.i in
+    let h : i + 8 ≤ length chunk = omega (arith, length-drop i chunk) in
+    let line = take (length chunk - i) (drop i chunk) in
+    let at : line ≡ drop i chunk = take_all (length chunk - i) (drop i chunk) (omega (arith, length-drop i chunk)) in
+    let named = (starts_is Decides-eqb line (115 ∷ 116 ∷ 101 ∷ 112 ∷ 32 ∷ []) c.starts_with.result c.starts_with.ensures.value).0 c.if-not-starts_with.false in
+    let tens = sym c.digit.ensures ∙ c.in_ok-tens.was in
+    elim c.match-digit.branch [
+      | in-Some w ↦ found_two chunk line i at h named c.in_ok-tens.tens w.in-Some.ones _ _ tens (sym c.digit-2.ensures ∙ w.in-Some.is) (ap (λ x. x.0) w.worker-is) (ap (λ x. x.1) w.worker-is) c.if-line-length-ne10.false
+      | in-None w ↦ found_one chunk line i at h named c.in_ok-tens.tens _ _ tens (ap (λ x. x.0) w.worker-is) (ap (λ x. x.1) w.worker-is) c.if-line-length-ne10.false
+    ]

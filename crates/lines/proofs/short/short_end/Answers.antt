@@ -1,9 +1,0 @@
--- `lines::short::short_end` meets its contract.
--- Assumes nothing.
-use Rattle.lines.proofs.short.short_end.Goals as goal
-
-pub returns-then-two : goal.returns-then-two
-returns-then-two c = simp c.if-two.true
-
-pub returns-else-two : goal.returns-else-two
-returns-else-two c = simp c.if-two.false
