@@ -4,32 +4,27 @@ use Rattle.std.specs.Prelude.{Option, None, Some}
 use mathlib.Core.Path.{◌≡◌, sym, ap, ◌∙◌}
 use mathlib.Core.Bool.{Bool, true, false}
 use mathlib.Core.List.{List}
-use Prim.Native.Nat.{ℕ, ◌+◌}
+use Prim.Native.Nat.{ℕ}
 use borrow.Author.Tests.{eq-eqb, ne_eqb}
 use lib.Dec.{eqb, leb}
 use lib.ListN.{length}
 use Rattle.decibel.specs.Told.{refused, gives}
 use Rattle.decibel.specs.Conversion.{convert_of}
 use Rattle.trie.specs.declared.Accepted.{Accepted}
-use Rattle.trie.specs.declared.Answer.{Answer}
 use Rattle.trie.specs.declared.Moved.{Moved}
 use Rattle.trie.specs.declared.Operation.{Operation}
-use Rattle.trie.specs.declared.Promised.{Promised}
 use Rattle.trie.specs.declared.Worker.{Worker}
-use Rattle.trie.specs.Size.{allowed, height_of}
-use Rattle.trie.specs.Record.{idle}
-use Rattle.trie.specs.Values.{value_of, accepted_of}
+use Rattle.trie.specs.Size.{allowed}
+use Rattle.trie.specs.Values.{accepted_of}
 use Rattle.trie.specs.Opening.{Opened, open_tables_of}
-use Rattle.trie.specs.Starting.{Started, start_record_of}
 use Rattle.trie.specs.Stepping.{stepped_by, step_record_of}
 use Rattle.kitesonnet.specs.Operations.{operation_of}
-use Rattle.kitesonnet.specs.Seats.{seats_of, record_at, worker_of, seat_put}
-use Rattle.kitesonnet.specs.Answers.{answer_words, answer_put, value_put, energy_put}
+use Rattle.kitesonnet.specs.Seats.{seats_of, record_at}
+use Rattle.kitesonnet.specs.Answers.{answer_words, energy_put}
 use Rattle.kitesonnet.specs.Calls.{Lent, lent, back, kite_open_of, start_given, kite_start_of, Answered, answered, step_roomy, kite_step_of, converted, convert_roomy, kite_energy_of}
 use Rattle.judging.specs.Judging.{manned_by}
-use Rattle.kitesonnet.specs.Promising.{promised_in}
 use Rattle.kitesonnet.specs.Seats.{seats_rested}
-use Rattle.kitesonnet.specs.OneRecord.{Begins, begins, begun_in, starts_in, Moves, moves, moves_in, lost_in, steps_in, steps_at}
+use Rattle.kitesonnet.specs.OneRecord.{Begins, starts_in, Moves, moves_in, steps_in, steps_at}
 use Rattle.kitesonnet.proofs.CallLaws.{moves_are, judged_in, Sits, sits, begun_back, start_sits, start_stays, step_sits, step_stays, open_short, open_fresh}
 
 -- ---- an open
@@ -46,25 +41,6 @@ module _ (n w : ℕ) (nodes versions board nodes' versions' : List ℕ) (a : Acc
   open_begins b e g = ap (λ (x : List ℕ). back 0 (lent nodes' versions' x)) g ∙ open_fresh n w nodes versions board nodes' versions' p m (sym (ap opened e) ∙ o)
 
 -- ---- a start
-
-module _ (i : ℕ) (board : List ℕ) where
-  abbrev started : Accepted → Worker → Started
-  started a w = record { told = accepted_of a; worker = w }
-
-  pub begun_accepted : (a : Accepted) (w : Worker) (b : List ℕ) → a ≡ Accepted.Ok → b ≡ seat_put board i w → begins 0 b ≡ begun_in i board (started a w)
-  begun_accepted a w b e g = ap (begins 0) g ∙ sym (ap (λ (x : Accepted). begun_in i board (started x w)) e)
-
-  pub begun_refused : (a : Accepted) (w : Worker) (number : ℕ) → a ≡ Accepted.Refused number → begins number board ≡ begun_in i board (started a w)
-  begun_refused a w number e = sym (ap (λ (x : Accepted). begun_in i board (started x w)) e)
-
-  pub begun_so : (n w height : ℕ) (o : Operation) (nodes versions : List ℕ) (sum : Promised) (says : Option Worker) (own : Worker) (q : Begins) (r : Started) → height ≡ height_of n → sum ≡ promised_in (height + 1) w board
-      → says ≡ record_at board i → own ≡ worker_of says → r ≡ start_record_of n o sum own nodes versions → q ≡ begun_in i board r
-      → q ≡ starts_in n w i o nodes versions board
-  begun_so n w height o nodes versions sum says own q r e f g h k l =
-      l
-      ∙ ap (begun_in i board) (k
-      ∙ ap (λ (p : Promised). start_record_of n o p own nodes versions) (f ∙ ap (λ (x : ℕ). promised_in (x + 1) w board) e)
-      ∙ ap (λ (x : Worker). start_record_of n o (promised_in (height_of n + 1) w board) x nodes versions) (h ∙ ap worker_of g))
 
 module _ (n w i kind first second : ℕ) (nodes versions board : List ℕ) where
   abbrev s : Lent
@@ -95,22 +71,9 @@ module _ (n w i : ℕ) (nodes versions board : List ℕ) (r : ℕ) (j : r ≡ ju
 
 -- ---- a step
 
-module _ (i : ℕ) (board answer : List ℕ) where
-  pub moved_refused : (m : Moved) (number : ℕ) → m ≡ Moved.Refused number → moves number board answer ≡ moves_in i board answer m
-  moved_refused m number e = sym (ap (moves_in i board answer) e)
-
-  pub moved_on : (m : Moved) (v : Worker) (b a : List ℕ) → m ≡ Moved.On v → b ≡ seat_put board i v → a ≡ answer_put answer 0 0 0 → moves 0 b a ≡ moves_in i board answer m
-  moved_on m v b a e g h = ap (λ (x : List ℕ). moves 0 x a) g ∙ ap (moves 0 (seat_put board i v)) h ∙ sym (ap (moves_in i board answer) e)
-
-  pub moved_done : (m : Moved) (x : Answer) (v : Worker) (b a : List ℕ) → m ≡ Moved.Done x → v ≡ idle → b ≡ seat_put board i v → a ≡ value_put answer (value_of x) → moves 0 b a ≡ moves_in i board answer m
-  moved_done m x v b a e z g h = ap (λ (y : List ℕ). moves 0 y a) (g ∙ ap (seat_put board i) z) ∙ ap (moves 0 (seat_put board i idle)) h ∙ sym (ap (moves_in i board answer) e)
-
 module _ (n i : ℕ) (nodes versions board answer : List ℕ) where
   abbrev lends : Lent
   lends = lent nodes versions board
-
-  pub step_lost : (x : Option Worker) (r : ℕ) → x ≡ record_at board i → x ≡ None → r ≡ lost_in n nodes versions → answered (back r lends) answer ≡ steps_at n i lends answer
-  step_lost x r e g h = ap (λ (k : ℕ). answered (back k lends) answer) h ∙ ap (λ (y : Option Worker). steps_in n i y lends answer) (sym g ∙ e)
 
   pub step_moves : (x : Option Worker) (own : Worker) (m : Moved) (q : Moves) (nodes' versions' : List ℕ) → x ≡ record_at board i → x ≡ Some own
       → stepped_by m own nodes' versions' ≡ step_record_of n own nodes versions → q ≡ moves_in i board answer m

@@ -106,9 +106,6 @@ owed_small share r p e l = subst Small (sym e) (most_up (owed_in share r) share 
 pub promised_small : (share w : ℕ) (words : List ℕ) (p : Promised) → p ≡ promised_in share w words → share ≤ most_share → w ≤ most_workers → Small p
 promised_small share w words p e l m = subst Small (sym e) (most_up (promised_in share w words) (shares share w) (most_workers * most_share) (omega (arith, shares_most share l w, m)) (promised_most share w words))
 
-pub small_of : (p : Promised) (a : ℕ) → p ≡ Promised.Of a → Small p → a ≤ most_workers * most_share
-small_of p a e h = subst Small e h
-
 -- ---- one worker more
 
 together_assoc : (p q r : Promised) → together (together p q) r ≡ together p (together q r)

@@ -7,7 +7,7 @@ ghost use Rattle.kitesonnet.specs.Answers.{answer_put, value_put};
 use tables::put;
 use trie::Answer;
 
-// The kinds of answers.
+// The kinds of answers, as C names them. `Answer` is the enum of them, so that none stands between it and the numbers.
 pub(crate) const ON_KIND: u64 = 0;
 
 const YES_KIND: u64 = 1;
@@ -25,6 +25,7 @@ const SUMS_KIND: u64 = 6;
 pub(crate) const ENERGY_KIND: u64 = 7;
 
 // The kind of an answer and its two values.
+#[tactic(auto, unfolding(crate::specs::Answers::answer_put))]
 pub(crate) fn put_answer(answer: &mut [u64], kind: u64, first: u64, second: u64)
     ensures { answer.new ≡ answer_put answer.old kind first second }
 {

@@ -62,7 +62,7 @@ fn climb_of(update: Update, words: &[u64; RECORD_WORDS]) -> Option<Worker>
     ensures { result ≡ climb_of update words.now }
 {
     let climb = Climb {
-        update: update,
+        update,
         yes: flag(words[4])?,
         node: NodeNumber(words[5]),
         second: flag(words[6])?,
@@ -118,7 +118,7 @@ fn query_in(words: &[u64; RECORD_WORDS]) -> Option<Worker>
         ),
         _ => return None,
     };
-    Some(Worker { phase: phase })
+    Some(Worker { phase })
 }
 
 #[tactic(auto, unfolding(crate::specs::Reading::record_of))]

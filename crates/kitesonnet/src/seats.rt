@@ -8,6 +8,8 @@ use crate::reading::record_of;
 use crate::writing::words_of;
 use trie::Worker;
 
+// Both take the board and a worker whose words it has: where the twelve words alone are lent out of it, no proof tells what the board ends as.
+
 // The record of worker i, or that its words are none.
 // They are taken by value: read one by one where they lie, they make a step a tenth longer.
 pub(crate) fn record_at(board: &[u64], i: usize) -> Option<Worker>

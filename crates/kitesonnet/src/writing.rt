@@ -21,7 +21,7 @@ fn numbers_of_update(update: Update) -> [u64; 3]
     }
 }
 
-// One match that gave both the kind and the number would make every step some 7 per cent slower.
+// Two matches: one that gives the kind and the number makes every step some 7 per cent slower.
 fn asked(query: Query) -> u64
     ensures { result ≡ asked_of query }
 {
