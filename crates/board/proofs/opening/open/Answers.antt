@@ -1,9 +1,8 @@
 -- `board::opening::open` meets its contract: the tables are opened as they are for themselves, and then the workers rest.
 -- Assumes nothing.
-use Rattle.std.proofs.Common.{◌∙◌, sym, ap, arith, length-take}
-use Rattle.trie.specs.declared.Worker.{Worker}
+use Rattle.std.proofs.Common.{◌∙◌, sym, arith, length-take}
 use Rattle.trie.specs.Calls.{open_of}
-use Rattle.trie.specs.Opening.{Opened, open_tables_of}
+use Rattle.trie.specs.Opening.{open_tables_of}
 use Rattle.steps.proofs.Damages.{goes_out}
 use Rattle.judging.proofs.JudgingLaws.{manned_by_lem}
 use Rattle.board.proofs.OpeningLaws.{seats_enough, rests, tables_refused, tables_opened}

@@ -1,6 +1,6 @@
 -- A start goes by the judging of its call: it is refused so, or what is promised is told to the start of the worker's record.
 -- Assumes nothing.
-use Rattle.std.specs.Prelude.{⊤, Result}
+use Rattle.std.specs.Prelude.{Result}
 use Rattle.std.proofs.Common.{◌≡◌, ◌+◌, ◌∙◌, List, ℕ, sym, ap, arith, get_or}
 use Rattle.trie.specs.declared.Damage.{Damage}
 use Rattle.trie.specs.declared.Operation.{Operation}

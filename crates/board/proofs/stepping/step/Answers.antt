@@ -1,11 +1,8 @@
 -- A step goes by the judging of its call: it is refused so, or the worker's record is stepped where it lies.
 -- Assumes nothing.
-use Rattle.std.proofs.Common.{◌≡◌, ◌∙◌, sym, ap, arith}
-use Rattle.trie.specs.declared.Progress.{Progress}
-use Rattle.trie.specs.Values.{progress_of}
-use Rattle.trie.specs.Stepping.{Stepped}
-use Rattle.trie.specs.Calls.{state, after, step_at}
-use Rattle.judging.proofs.JudgingLaws.{seated, step_seated, step_refused}
+use Rattle.std.proofs.Common.{◌∙◌, sym, ap}
+use Rattle.trie.specs.Calls.{state, step_at}
+use Rattle.judging.proofs.JudgingLaws.{step_seated, step_refused}
 use Rattle.steps.proofs.Damages.{goes_out}
 use Rattle.board.proofs.stepping.step.Goals as goal
 
