@@ -1,7 +1,7 @@
 -- What is promised is what the count of the updates leaves due: one more worker of both, and bounds on the count.
 -- Assumes nothing.
-use Rattle.std.specs.Prelude.{◌≡◌, refl, Bool, true, false, ◌&&◌, List, [], ◌∷◌, ℕ, zero, suc, ◌+◌, ◌*◌, ◌-◌, ◌%◌, ◌≤◌, leb, get_or, take, Result}
-use Rattle.std.proofs.Common.{sym, ap, ◌∙◌, mul-le-mul, arith, leb-true, le-leb}
+use Rattle.std.specs.Prelude.{◌≡◌, refl, Bool, true, false, ◌&&◌, List, [], ◌∷◌, ℕ, zero, suc, ◌+◌, ◌*◌, ◌-◌, ◌%◌, ◌≤◌, leb, get_or, take, length, Result}
+use Rattle.std.proofs.Common.{sym, ap, ◌∙◌, mul-le-mul, arith, leb-true, le-leb, length-take}
 use Rattle.std.proofs.lemmas.Nat.{trailing_le}
 use Rattle.trie.specs.declared.Phase.{Phase}
 use Rattle.trie.specs.declared.Damage.{Damage}
@@ -120,6 +120,9 @@ unfolding height_of
 share_small n = omega (arith, trailing_le 64 n)
 
 -- ---- records at W and beyond are never read
+
+pub first_row : (w : ℕ) (board : List Worker) → w ≤ length board → w ≡ length (take w board)
+first_row w board l = omega (arith, length-take w board)
 
 pub promised_first : (share w : ℕ) (board : List Worker) → promised_of share w (take w board) ≡ promised_of share w board
 promised_first share zero board = refl

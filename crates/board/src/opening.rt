@@ -9,7 +9,7 @@ use records::rested;
 use trie::{Refusal, Worker};
 
 // Begins a history: refusals 1, 2 and 3. Nothing rests where the tables are not opened.
-#[tactic(auto, unfolding(trie::specs::Calls::open_of, trie::specs::Opening::open_tables_of))]
+#[tactic(auto, using(crate::proofs::CallLaws::of_open), unfolding(trie::specs::Calls::open_of, trie::specs::Opening::open_tables_of))]
 pub fn open(
     n: u64,
     w: u64,

@@ -76,6 +76,7 @@ fn still_due(share: u64, t: Tally) -> Result<u64, Damage>
     }
 }
 
+#[tactic(auto, using(crate::proofs::CallLaws::of_promised))]
 pub(crate) fn promised(share: u64, w: usize, board: &[Worker]) -> Result<u64, Damage>
     requires { (share ≤ most_share) × (w ≤ most_workers) × (w ≤ length board.now) }
     ensures { result ≡ promised_of share w board.now }

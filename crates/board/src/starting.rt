@@ -9,7 +9,7 @@ use judging::judge;
 use trie::{Operation, Refusal, Worker};
 
 // Starts an operation in worker i: refusals 1, 2, 3, 4, 5, 7, 9 and 8.
-#[tactic(auto, using(judging::proofs::JudgingLaws::seated))]
+#[tactic(auto, using(crate::proofs::CallLaws::of_start))]
 pub fn start(
     n: u64,
     w: u64,

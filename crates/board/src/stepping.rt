@@ -9,7 +9,7 @@ use judging::judge;
 use trie::{Progress, Refusal, Worker};
 
 // Advances worker i: refusals 1, 2, 3, 4, 6 and 9.
-#[tactic(auto, using(judging::proofs::JudgingLaws::seated))]
+#[tactic(auto, using(crate::proofs::CallLaws::of_step))]
 pub fn step(
     n: u64,
     w: u64,

@@ -60,7 +60,7 @@ fn turn(b: Bounds, phase: Phase, nodes: &mut [u64], versions: &mut [u64]) -> Res
 }
 
 // Steps one record on the lent tables: refusals 1, 3, 6 and 9.
-#[tactic(auto, unfolding(trie::specs::Stepping::step_record_of))]
+#[tactic(auto, using(steps::proofs::Grants::bounds_are, crate::proofs::Heights::bounds_fit), unfolding(trie::specs::Stepping::step_record_of))]
 pub fn step_record(
     n: u64,
     w: Worker,

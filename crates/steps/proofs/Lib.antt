@@ -1,5 +1,4 @@
 -- Laws by which the calls that begin are proved:
--- whose bounds they are judged by, how open fills the tables, and what damage comes to.
+-- whose bounds they are judged by, and how open fills the tables.
 pub mod Grants
 pub mod Fills
-pub mod Damages

@@ -19,6 +19,7 @@ fn first_word(n: u64, i: u64) -> u64
 }
 
 // Sets the words below `end` to their first values, and leaves the rest.
+#[tactic(auto, using(crate::proofs::Fills::filled_next), unfolding(trie::specs::Opening::filled))]
 fn fill<F: Fn(u64) -> u64>(table: &mut [u64], end: u64, first: F)
     requires { (i : ℕ) → i < end → F.pre first i }
     ensures { (f : ℕ → ℕ) → ((i x : ℕ) → i < end → F.post first i x → x ≡ f i) → table.new ≡ filled f end table.old }

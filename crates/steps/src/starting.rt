@@ -44,7 +44,7 @@ fn grant(b: Bounds, o: Operation, promised: u64) -> Result<Worker, Refusal>
 }
 
 // Starts an operation in one record, given what is promised: refusals 1, 3, 5, 7, 9 and 8.
-#[tactic(auto, unfolding(trie::specs::Starting::start_record_of))]
+#[tactic(auto, using(crate::proofs::Grants::bounds_are), unfolding(trie::specs::Starting::start_record_of))]
 pub fn start_record(
     n: u64,
     o: Operation,
