@@ -7,9 +7,10 @@ use Prim.Native.Nat.{ℕ, ◌+◌, ◌*◌, ◌≤◌, ◌<◌}
 use native.Mathlib.Omega.{arith}
 use borrow.Author.Tests.{ne_eqb}
 use lib.ListN.{length, take, drop}
-use Rattle.std.specs.Prelude.{Some, None, Option}
+use Rattle.std.specs.Prelude.{Some, None, Option, Result}
 use Rattle.grammar.specs.declared.Command.{Command}
 use Rattle.trie.specs.declared.Progress.{Progress}
+use Rattle.trie.specs.declared.Refusal.{Refusal}
 use Rattle.trie.specs.declared.Worker.{Worker}
 use Rattle.trie.specs.Choice.{pick}
 use Rattle.trie.specs.Values.{progress_of}
@@ -18,7 +19,6 @@ use Rattle.lines.specs.declared.Begun.{Begun}
 use Rattle.lines.specs.declared.History.{History}
 use Rattle.lines.specs.declared.Place.{Place}
 use Rattle.lines.specs.declared.Run.{Run}
-use Rattle.lines.specs.declared.Turn.{Turn}
 use Rattle.lines.specs.declared.Step.{Step}
 use Rattle.grammar.specs.Text.{course_text}
 use Rattle.lines.specs.Watch.{Watch, watch, opened}
@@ -49,7 +49,7 @@ steps_opened (Some (Command.Open n w v)) p s e = absurd cc
 steps_opened None p s e = absurd cc
 
 -- a run goes on behind a step
-pub steady_on : (chunk out out' : List ℕ) (progress : Progress) (r q : Run) (s : Step) → Steady chunk r → r.step ≡ Some s → Passes progress s r.filled chunk out out' q → Steady chunk q
+pub steady_on : (chunk out out' : List ℕ) (progress : Result Progress Refusal) (r q : Run) (s : Step) → Steady chunk r → r.step ≡ Some s → Passes progress s r.filled chunk out out' q → Steady chunk q
 steady_on chunk out out' progress r q s steady is g =
     let z = g.begins in
     let a = steady.ahead s is in
@@ -62,9 +62,9 @@ steady_on chunk out out' progress r q s steady is g =
 module _ (begun : Begun) (chunk : List ℕ) where
   module _ (s₀ : Watch) (out₀ : List ℕ) where
     -- a turn, its answer written, and the next place
-    pub one_more : (p r : Place) (turn : Turn) (nodes versions nodes' versions' out out' : List ℕ) (board board' : List Worker)
+    pub one_more : (p r : Place) (turn : Result History Refusal) (nodes versions nodes' versions' out out' : List ℕ) (board board' : List Worker)
         → Runs begun chunk s₀ out₀ p (watch p.history nodes versions board) out → p.end < length chunk → widest * length chunk ≤ length out
-        → turned turn nodes' versions' board' ≡ line_turn p.line (watch p.history nodes versions board) → Goes turn p chunk out out' r
+        → turned turn p.history nodes' versions' board' ≡ line_turn p.line (watch p.history nodes versions board) → Goes turn p chunk out out' r
         → Runs begun chunk s₀ out₀ r (watch r.history nodes' versions' board') out'
     one_more p r turn nodes versions nodes' versions' out out' board board' q l k a g =
         let e = p.end in
@@ -72,7 +72,7 @@ module _ (begun : Begun) (chunk : List ℕ) where
         let f : p.filled ≤ length out = omega (arith, q.room, q.ends.onward) in
         let z = g.placed.begins in
         let b : upto [] ≡ before begun r.from = sym (before_later begun r.from (omega (arith, z))) in
-        let goes = line_answered chunk p.from e q.ends l (before begun p.from) s (turned turn nodes' versions' board') out out' p.filled r.filled f
+        let goes = line_answered chunk p.from e q.ends l (before begun p.from) s (turned turn p.history nodes' versions' board') out out' p.filled r.filled f
         (a ∙ ap (λ (x : Option Command). line_turn x s) q.line) g.put in
         record {
           ends = subst (λ (i : ℕ). Ends chunk i r.end) (sym z) g.placed.ends;
@@ -98,7 +98,7 @@ module _ (begun : Begun) (chunk : List ℕ) where
         }
 
     -- a step of a run, its answer written, and the run behind it
-    pub step_more : (h : History) (r q : Run) (t : Step) (progress : Progress) (nodes versions nodes' part out out' : List ℕ) (board board' : List Worker)
+    pub step_more : (h : History) (r q : Run) (t : Step) (progress : Result Progress Refusal) (nodes versions nodes' part out out' : List ℕ) (board board' : List Worker)
         → opened h ≡ true → r.step ≡ Some t → Steady chunk r → widest * length chunk ≤ length out
         → after (progress_of progress) (state nodes' part board') ≡ step_of h.cells h.workers t.worker (state nodes (take (words_of h.versions) versions) board)
         → Passes progress t r.filled chunk out out' q → Ran begun chunk s₀ out₀ r (watch h nodes versions board) out

@@ -5,13 +5,13 @@ use mathlib.Core.Bool.{Bool, true, false, ◌&&◌}
 use mathlib.Core.List.{List, [], ◌∷◌, ◌++◌}
 use Prim.Native.Nat.{ℕ, ◌+◌, ◌*◌, ◌-◌, ◌≤◌}
 use native.Mathlib.Omega.{arith}
-use borrow.Author.Tests.{ne_eqb, le-ltb, leb-true}
+use borrow.Author.Tests.{ne_eqb, le-leb, leb-true}
 use lib.Dec.{leb}
 use lib.ListN.{length, take, drop, get_or, length-drop}
 use lib.Seq.{get_or-drop}
-use Rattle.std.specs.Prelude.{Some, None, Option}
+use Rattle.std.specs.Prelude.{Some, None}
 use Rattle.grammar.specs.declared.Command.{Command}
-use Rattle.grammar.specs.Grammar.{starts, ended, digits, number_of, one_of, command_of, line_of}
+use Rattle.grammar.specs.Grammar.{ended, digits, number_of, line_of}
 use Rattle.trie.specs.Choice.{pick}
 use Rattle.trie.proofs.SizeLaws.{and_first, and_second}
 use Rattle.lines.specs.Feeding.{plain, between}

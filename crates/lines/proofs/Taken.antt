@@ -1,4 +1,4 @@
--- A line that is taken by the call that it makes does what the line is to do: a step, a start, an open, and a refusal.
+-- A line that is taken by the call that it makes does what the line is to do: a step, a start and an open.
 -- Assumes nothing.
 use mathlib.Core.Path.{◌≡◌, refl, sym, ap, ◌∙◌}
 use mathlib.Core.Bool.{Bool, true, false, ◌&&◌}
@@ -8,28 +8,26 @@ use native.Mathlib.Omega.{arith}
 use borrow.Author.Tests.{leb-true}
 use lib.Dec.{leb}
 use lib.ListN.{take, drop, take-append-drop}
-use Rattle.std.specs.Prelude.{Result, Ok, Err, Option, Some, None}
+use Rattle.std.specs.Prelude.{⊤, Result, Some}
 use Rattle.decibel.specs.Told.{Told, refused, gives}
 use Rattle.grammar.specs.declared.Command.{Command}
-use Rattle.trie.specs.declared.Accepted.{Accepted}
 use Rattle.trie.specs.declared.Operation.{Operation}
 use Rattle.trie.specs.declared.Progress.{Progress}
+use Rattle.trie.specs.declared.Refusal.{Refusal}
 use Rattle.trie.specs.declared.Worker.{Worker}
 use Rattle.trie.specs.Choice.{pick}
 use Rattle.trie.specs.Size.{allowed, most_workers}
 use Rattle.trie.proofs.SizeLaws.{and_second}
 use Rattle.trie.specs.Tables.{width, roomy}
-use Rattle.trie.specs.Values.{Ok as Accept, ok, Course, accepted_of, progress_of}
+use Rattle.trie.specs.Refusing.{number_of}
+use Rattle.trie.specs.Values.{Ok, ok, Course, accepted_of, progress_of}
 use Rattle.trie.specs.Opening.{open_nodes, open_versions, open_board}
 use Rattle.trie.specs.Calls.{State, state, After, after, check, manned, open_of, start_of, step_of}
-use Rattle.lines.specs.declared.Call.{Call}
 use Rattle.lines.specs.declared.History.{History}
-use Rattle.lines.specs.declared.Reply.{Reply}
 use Rattle.grammar.specs.Text.{accepted_text, course_text}
-use Rattle.lines.specs.Replies.{reply_text}
-use Rattle.lines.specs.Watch.{Watch, watch, history, most_cells, most_versions, opened, lent, returned}
-use Rattle.lines.specs.Turns.{Answered, answered, refuses, opens, room, open_line, start_line, step_line, line_turn, turned}
-use Rattle.lines.specs.Calling.{words_of, stepping, call_of, kept_by}
+use Rattle.lines.specs.Watch.{Watch, watch, most_versions, opened, lent, returned, most_cells}
+use Rattle.lines.specs.Turns.{Answered, answered, refuses, opens, room, open_line, start_line, step_line, line_turn}
+use Rattle.lines.specs.Calling.{words_of}
 
 room_most : (v : ℕ) → room v ≤ most_versions
 room_most v = by (leb v most_versions) refl
@@ -52,7 +50,7 @@ pub lent_most : (v : ℕ) → words_of v ≤ width * most_versions
 lent_most v = omega (arith, room_most v)
 
 -- the checks of an open, by how they come out
-abbrev checked : ℕ → ℕ → State → Bool → Bool → Bool → After Accept
+abbrev checked : ℕ → ℕ → State → Bool → Bool → Bool → After Ok
 checked n w s a m r = check a 1 s (check m 2 s (check r 3 s (after (gives ok) (state (open_nodes n s.nodes) (open_versions n s.versions) (open_board w s.board)))))
 
 -- a refused open leaves all that was lent
@@ -83,7 +81,7 @@ module _ (h : History) (nodes versions : List ℕ) (board : List Worker) where
   step_line_lem i e = rw (e, room_same h e)
 
   -- the words that are lent come back before the others
-  pub step_taken : (i : ℕ) (p : Progress) (nodes' part : List ℕ) (board' : List Worker) → opened h ≡ true
+  pub step_taken : (i : ℕ) (p : Result Progress Refusal) (nodes' part : List ℕ) (board' : List Worker) → opened h ≡ true
       → after (progress_of p) (state nodes' part board') ≡ step_of h.cells h.workers i (state nodes (take (words_of h.versions) versions) board)
       → answered (course_text (progress_of p)) (watch h nodes' (part ++ drop (words_of h.versions) versions) board') ≡ line_turn (Some (Command.Step i)) s
   unfolding line_turn
@@ -98,93 +96,38 @@ module _ (h : History) (nodes versions : List ℕ) (board : List Worker) where
   unfolding start_line
   start_line_lem i o e = rw (e, room_same h e)
 
-  start_called : (line : Option Command) (i : ℕ) (o : Operation) → call_of line h ≡ Ok (Call.Start i o) → started i o (words_of h.versions) ≡ line_turn line s
-  unfolding call_of line_turn
-  start_called (Some (Command.Step j)) i o e = absurd cc
-  start_called (Some (Command.Start j p)) i o e = by (opened h) refl e
-    where
-      by : (t : Bool) → opened h ≡ t → pick {A = Result Call ℕ} t (Ok (Call.Start j p)) (Err 10) ≡ Ok (Call.Start i o) → started i o (words_of h.versions) ≡ start_line j p s
-      by true q e =
-          let ei : i ≡ j = cc in
-          let eo : o ≡ p = cc in
-          (λ t. started (ei t) (eo t) (words_of h.versions)) ∙ start_line_lem j p q
-      by false q e = absurd cc
-  start_called (Some (Command.Open n w v)) i o e = by (leb n most_cells) e
-    where
-      by : (t : Bool) → pick {A = Result Call ℕ} t (Ok (Call.Open (history n w v))) (Err 1) ≡ Ok (Call.Start i o) → started i o (words_of h.versions) ≡ open_line n w v s
-      by true e = absurd cc
-      by false e = absurd cc
-  start_called None i o e = absurd cc
-
   -- the tables are as they were
-  pub start_taken : (line : Option Command) (i : ℕ) (o : Operation) (k : ℕ) (a : Accepted) (board' : List Worker) → call_of line h ≡ Ok (Call.Start i o) → k ≡ words_of h.versions
+  pub start_taken : (i : ℕ) (o : Operation) (k : ℕ) (a : Result ⊤ Refusal) (board' : List Worker) → opened h ≡ true → k ≡ words_of h.versions
       → after (accepted_of a) (state nodes (take k versions) board') ≡ start_of h.cells h.workers i o (state nodes (take k versions) board)
-      → turned (record { reply = Reply.Accepted a; history = h }) nodes versions board' ≡ line_turn line s
-  unfolding reply_text
-  start_taken line i o k a board' e l q =
+      → answered (accepted_text (accepted_of a)) (watch h nodes versions board') ≡ start_line i o s
+  start_taken i o k a board' e l q =
       ap (λ (vs : List ℕ). answered (accepted_text (accepted_of a)) (watch h nodes vs board')) (sym (take-append-drop k versions))
-      ∙ ap (λ (x : After Accept). shown accepted_text x k) q ∙ ap (started i o) l ∙ start_called line i o e
+      ∙ ap (λ (x : After Ok). shown accepted_text x k) q ∙ ap (started i o) l ∙ start_line_lem i o e
 
   -- ---- an open
 
-  abbrev kept : Accepted → History → List ℕ → List ℕ → List Worker → ℕ → Answered
-  kept a asked nodes' part board' k = answered (accepted_text (accepted_of a)) (watch (kept_by a asked h) nodes' (part ++ drop k versions) board')
+  abbrev kept : Result ⊤ Refusal → History → History
+  kept (Result.Err refusal) asked = h
+  kept (Result.Ok accepted) asked = asked
 
-  open_line_lem : (n w v : ℕ) (a : Accepted) (nodes' part : List ℕ) (board' : List Worker) → leb n most_cells ≡ true
-      → after (accepted_of a) (state nodes' part board') ≡ open_of n w (lent (room v) s) → kept a (history n w v) nodes' part board' (words_of v) ≡ open_line n w v s
+  abbrev opened_by : History → Result ⊤ Refusal → List ℕ → List ℕ → List Worker → ℕ → Answered
+  opened_by asked a nodes' part board' k = answered (accepted_text (accepted_of a)) (watch (kept a asked) nodes' (part ++ drop k versions) board')
+
+  open_line_lem : (asked : History) (a : Result ⊤ Refusal) (nodes' part : List ℕ) (board' : List Worker) → leb asked.cells most_cells ≡ true
+      → after (accepted_of a) (state nodes' part board') ≡ open_of asked.cells asked.workers (lent (room asked.versions) s)
+      → opened_by asked a nodes' part board' (words_of asked.versions) ≡ open_line asked.cells asked.workers asked.versions s
   unfolding open_line accepted_text
-  open_line_lem n w v Accepted.Ok nodes' part board' e q = rw e (ap (opens n w v s) q)
-  open_line_lem n w v (Accepted.Refused k) nodes' part board' e q =
-      let l : state nodes' part board' ≡ lent (room v) s = ap (λ (x : After Accept). x.state) q ∙ open_left n w k (lent (room v) s) (sym (ap (λ (x : After Accept). x.told) q)) in
+  open_line_lem asked (Result.Ok accepted) nodes' part board' e q = rw e (ap (opens asked.cells asked.workers asked.versions s) q)
+  open_line_lem asked (Result.Err refusal) nodes' part board' e q =
+      let v = asked.versions in
+      let k = number_of refusal in
+      let l : state nodes' part board' ≡ lent (room v) s = ap (λ (x : After Ok). x.state) q ∙ open_left asked.cells asked.workers k (lent (room v) s) (sym (ap (λ (x : After Ok). x.told) q)) in
       rw e (ap (λ (x : State). refuses k (returned (room v) x s)) l
-      ∙ ap (λ (vs : List ℕ). refuses k (watch h nodes vs board)) (take-append-drop (words_of v) versions) ∙ ap (opens n w v s) q)
+      ∙ ap (λ (vs : List ℕ). refuses k (watch h nodes vs board)) (take-append-drop (words_of v) versions) ∙ ap (opens asked.cells asked.workers v s) q)
 
-  open_called : (line : Option Command) (asked : History) (a : Accepted) (nodes' part : List ℕ) (board' : List Worker) → call_of line h ≡ Ok (Call.Open asked)
-      → after (accepted_of a) (state nodes' part board') ≡ open_of asked.cells asked.workers (state nodes (take (words_of asked.versions) versions) board)
-      → kept a asked nodes' part board' (words_of asked.versions) ≡ line_turn line s
-  unfolding call_of line_turn
-  open_called (Some (Command.Step i)) asked a nodes' part board' e q = absurd cc
-  open_called (Some (Command.Start i o)) asked a nodes' part board' e q = by (opened h) e
-    where
-      by : (t : Bool) → pick {A = Result Call ℕ} t (Ok (Call.Start i o)) (Err 10) ≡ Ok (Call.Open asked) → kept a asked nodes' part board' (words_of asked.versions) ≡ start_line i o s
-      by true e = absurd cc
-      by false e = absurd cc
-  open_called (Some (Command.Open n w v)) asked a nodes' part board' e q = by (leb n most_cells) refl e
-    where
-      by : (t : Bool) → leb n most_cells ≡ t → pick {A = Result Call ℕ} t (Ok (Call.Open (history n w v))) (Err 1) ≡ Ok (Call.Open asked) → kept a asked nodes' part board' (words_of asked.versions) ≡ open_line n w v s
-      by true l e =
-          let f : asked ≡ history n w v = cc in
-          (λ t. kept a (f t) nodes' part board' (words_of (f t).versions))
-          ∙ open_line_lem n w v a nodes' part board' l (q ∙ (λ t. open_of (f t).cells (f t).workers (state nodes (take (words_of (f t).versions) versions) board)))
-      by false l e = absurd cc
-  open_called None asked a nodes' part board' e q = absurd cc
-
-  pub open_taken : (line : Option Command) (asked : History) (k : ℕ) (a : Accepted) (nodes' part : List ℕ) (board' : List Worker) → call_of line h ≡ Ok (Call.Open asked) → k ≡ words_of asked.versions
+  pub open_taken : (asked : History) (k : ℕ) (a : Result ⊤ Refusal) (nodes' part : List ℕ) (board' : List Worker) → leb asked.cells most_cells ≡ true → k ≡ words_of asked.versions
       → after (accepted_of a) (state nodes' part board') ≡ open_of asked.cells asked.workers (state nodes (take k versions) board)
-      → turned (record { reply = Reply.Accepted a; history = kept_by a asked h }) nodes' (part ++ drop k versions) board' ≡ line_turn line s
-  unfolding reply_text
-  open_taken line asked k a nodes' part board' e l q =
-      ap (kept a asked nodes' part board') l
-      ∙ open_called line asked a nodes' part board' e (q ∙ ap (λ (j : ℕ). open_of asked.cells asked.workers (state nodes (take j versions) board)) l)
-
-  -- ---- a refusal
-
-  refused_called : (line : Option Command) (k : ℕ) → call_of line h ≡ Err k → stepping line h ≡ false → refuses k s ≡ line_turn line s
-  unfolding call_of line_turn step_line start_line open_line
-  refused_called (Some (Command.Step i)) k e n = let f : k ≡ 10 = cc in ap (λ (j : ℕ). refuses j s) f ∙ rw n
-  refused_called (Some (Command.Start i o)) k e n = by (opened h) refl e
-    where
-      by : (t : Bool) → opened h ≡ t → pick {A = Result Call ℕ} t (Ok (Call.Start i o)) (Err 10) ≡ Err k → refuses k s ≡ start_line i o s
-      by true q e = absurd cc
-      by false q e = let f : k ≡ 10 = cc in ap (λ (j : ℕ). refuses j s) f ∙ rw q
-  refused_called (Some (Command.Open n w v)) k e _ = by (leb n most_cells) refl e
-    where
-      by : (t : Bool) → leb n most_cells ≡ t → pick {A = Result Call ℕ} t (Ok (Call.Open (history n w v))) (Err 1) ≡ Err k → refuses k s ≡ open_line n w v s
-      by true q e = absurd cc
-      by false q e = let f : k ≡ 1 = cc in ap (λ (j : ℕ). refuses j s) f ∙ rw q
-  refused_called None k e n = let f : k ≡ 10 = cc in ap (λ (j : ℕ). refuses j s) f
-
-  pub refused_taken : (line : Option Command) (k : ℕ) → call_of line h ≡ Err k → stepping line h ≡ false
-      → turned (record { reply = Reply.Accepted (Accepted.Refused k); history = h }) nodes versions board ≡ line_turn line s
-  unfolding reply_text accepted_text
-  refused_taken line k e n = refused_called line k e n
+      → opened_by asked a nodes' part board' k ≡ open_line asked.cells asked.workers asked.versions s
+  open_taken asked k a nodes' part board' e l q =
+      ap (opened_by asked a nodes' part board') l
+      ∙ open_line_lem asked a nodes' part board' e (q ∙ ap (λ (j : ℕ). open_of asked.cells asked.workers (state nodes (take j versions) board)) l)

@@ -1,20 +1,21 @@
 -- The places of a chunk: the line that is next, where it begins and ends, and how far the lines before it are served.
 -- Assumes nothing.
-use Rattle.std.specs.Prelude.{◌≡◌, ◌&&◌, Option, Some, None, List, [], ℕ, ◌+◌, ◌*◌, ◌-◌, ◌≤◌, ◌<◌, leb, length, take, drop}
+use Rattle.std.specs.Prelude.{◌≡◌, ◌&&◌, Option, Some, None, Result, List, [], ℕ, ◌+◌, ◌*◌, ◌-◌, ◌≤◌, ◌<◌, leb, length, take, drop}
 use Rattle.grammar.specs.declared.Command.{Command}
 use Rattle.grammar.specs.Grammar.{line_of}
 use Rattle.lines.specs.declared.Begun.{Begun}
 use Rattle.lines.specs.declared.History.{History}
 use Rattle.trie.specs.declared.Progress.{Progress}
+use Rattle.trie.specs.declared.Refusal.{Refusal}
 use Rattle.trie.specs.Choice.{pick}
 use Rattle.trie.specs.Values.{progress_of}
 use Rattle.lines.specs.declared.Place.{Place}
 use Rattle.lines.specs.declared.Run.{Run}
-use Rattle.lines.specs.declared.Turn.{Turn}
 use Rattle.lines.specs.declared.Step.{Step}
-use Rattle.grammar.specs.Text.{Put, course_text}
-use Rattle.lines.specs.Replies.{reply_text, widest}
+use Rattle.grammar.specs.Text.{Put, accepted_text, course_text}
+use Rattle.lines.specs.Replies.{widest}
 use Rattle.lines.specs.Watch.{Watch, opened}
+use Rattle.lines.specs.Turns.{told_by, history_by}
 use Rattle.lines.specs.Chunks.{line_at, listing, served_of, part_of}
 use Rattle.lines.specs.Feeding.{grown, between, Ends, before}
 
@@ -44,9 +45,9 @@ pub record First (begun : Begun) (h : History) (chunk : List ℕ) (p : Place) : 
   pub line : p.line ≡ line_at (grown (part_of begun) (take p.end chunk))
 
 -- a line's answer is written, and the next place is that of the line behind it
-pub record Goes (turn : Turn) (p : Place) (chunk out out' : List ℕ) (r : Place) : Type 0 where
-  pub placed : Placed chunk (p.end + 1) turn.history r.filled r
-  pub put : Put (reply_text turn.reply) p.filled out out' r.filled
+pub record Goes (turn : Result History Refusal) (p : Place) (chunk out out' : List ℕ) (r : Place) : Type 0 where
+  pub placed : Placed chunk (p.end + 1) (history_by turn p.history) r.filled r
+  pub put : Put (accepted_text (told_by turn)) p.filled out out' r.filled
   pub most : r.filled ≤ p.filled + widest
 
 -- the lines before a place are served: what is left has the outcome of the whole, and the buffer is as it was behind what is written
@@ -76,7 +77,7 @@ abbrev pub run_of : Place → Run
 run_of p = record { from = p.from; step = step_of_line p.line p; filled = p.filled }
 
 -- a step's answer is written, and the run goes on behind its line where a short step lies whole in the chunk
-pub record Passes (progress : Progress) (s : Step) (at : ℕ) (chunk out out' : List ℕ) (q : Run) : Type 0 where
+pub record Passes (progress : Result Progress Refusal) (s : Step) (at : ℕ) (chunk out out' : List ℕ) (q : Run) : Type 0 where
   pub begins : q.from ≡ s.end + 1
   pub step : Found chunk q.from q.step
   pub put : Put (course_text (progress_of progress)) at out out' q.filled

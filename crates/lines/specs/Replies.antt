@@ -1,13 +1,7 @@
--- The text of a line's reply, whichever call made it, and how it is put into a buffer.
+-- How the text of a line's answer is put into a buffer, and the most bytes that it takes.
 -- Assumes nothing.
 use Rattle.std.specs.Prelude.{List, ℕ, ◌≤◌}
-use Rattle.grammar.specs.Text.{accepted_text, course_text, Put}
-use Rattle.trie.specs.Values.{accepted_of, progress_of}
-use Rattle.lines.specs.declared.Reply.{Reply}
-
-unfoldable pub reply_text : Reply → List ℕ
-reply_text (Reply.Accepted a) = accepted_text (accepted_of a)
-reply_text (Reply.Progress p) = course_text (progress_of p)
+use Rattle.grammar.specs.Text.{Put}
 
 -- the most bytes that an answer takes
 abbrev pub widest : ℕ

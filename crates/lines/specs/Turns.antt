@@ -1,16 +1,17 @@
 -- What one line does: its text, and what is kept after it.
 -- Document 01, "The listing program". Assumes nothing.
-use Rattle.std.specs.Prelude.{List, ℕ, leb, Option, Some, None}
+use Rattle.std.specs.Prelude.{List, ℕ, leb, Option, Some, None, Result}
 use Rattle.decibel.specs.Told.{Told, refused, gives}
 use Rattle.grammar.specs.declared.Command.{Command}
 use Rattle.trie.specs.declared.Operation.{Operation}
+use Rattle.trie.specs.declared.Refusal.{Refusal}
 use Rattle.trie.specs.declared.Worker.{Worker}
 use Rattle.trie.specs.Choice.{pick}
-use Rattle.trie.specs.Values.{Ok, Course}
+use Rattle.trie.specs.Refusing.{number_of}
+use Rattle.trie.specs.Values.{Ok, ok, Course}
 use Rattle.trie.specs.Calls.{After, open_of, start_of, step_of}
-use Rattle.lines.specs.declared.Turn.{Turn}
+use Rattle.lines.specs.declared.History.{History}
 use Rattle.grammar.specs.Text.{refused_text, accepted_text, course_text}
-use Rattle.lines.specs.Replies.{reply_text}
 use Rattle.lines.specs.Watch.{Watch, watch, history, most_cells, most_versions, opened, lent, returned}
 
 pub record Answered : Type 0 where
@@ -61,6 +62,18 @@ line_turn (Some (Command.Start i o)) s = start_line i o s
 line_turn (Some (Command.Open n w v)) s = open_line n w v s
 line_turn None s = refuses 10 s
 
--- a turn of the code, with the tables and the board after it
-abbrev pub turned : Turn → List ℕ → List ℕ → List Worker → Answered
-turned t nodes versions board = answered (reply_text t.reply) (watch t.history nodes versions board)
+-- ---- a turn of the code: the history after it, or its refusal
+
+-- what is told of a turn
+abbrev pub told_by : Result History Refusal → Told Ok
+told_by (Result.Err refusal) = refused (number_of refusal)
+told_by (Result.Ok kept) = gives ok
+
+-- the history after a turn, where h was before it
+abbrev pub history_by : Result History Refusal → History → History
+history_by (Result.Err refusal) h = h
+history_by (Result.Ok kept) h = kept
+
+-- what a turn comes to, with the tables and the board after it
+abbrev pub turned : Result History Refusal → History → List ℕ → List ℕ → List Worker → Answered
+turned turn h nodes versions board = answered (accepted_text (told_by turn)) (watch (history_by turn h) nodes versions board)

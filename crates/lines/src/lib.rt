@@ -12,9 +12,9 @@ mod text;
 mod turns;
 
 pub use chunks::{finish, serve};
-pub use grammar::LONGEST_LINE;
 use grammar::Command;
-use trie::{Accepted, MOST_WORKERS, Operation, Phase, Progress, Worker};
+pub use grammar::LONGEST_LINE;
+use trie::{MOST_WORKERS, Phase, Worker};
 
 // The most cells and the most versions of a history here, fewer than elsewhere; and tables with room for them.
 pub(crate) const LISTED_CELLS: u64 = 16;
@@ -47,27 +47,6 @@ pub struct History {
 pub struct Begun {
     pub bytes: [u8; LONGEST_LINE],
     pub held: usize,
-}
-
-// What a line answers.
-#[derive(Clone, Copy)]
-pub enum Reply {
-    Accepted(Accepted),
-    Progress(Progress),
-}
-
-// The call that a line makes: a start with its worker, or an open with the N, W and V that it asks for.
-#[derive(Clone, Copy)]
-pub enum Call {
-    Start(u64, Operation),
-    Open(History),
-}
-
-// A line's answer, with the history after it.
-#[derive(Clone, Copy)]
-pub struct Turn {
-    pub reply: Reply,
-    pub history: History,
 }
 
 // The line that is next, where it begins and ends, the history before it, and where the text of the answers ends.

@@ -7,9 +7,10 @@ ghost use Rattle.lines.specs.Places.{Placed, First, Goes};
 
 use crate::keeping::{begun_line, keep};
 use crate::short::short_step;
-use crate::text::put_reply;
-use crate::{Begun, History, Place, Run, Turn};
+use crate::text::put_accepted;
+use crate::{Begun, History, Place, Run};
 use grammar::Command;
+use trie::Refusal;
 
 fn first_newline(bytes: &[u8]) -> Option<usize>
     ensures { result ≡ position (λ b. b == 10) bytes.now }
@@ -74,13 +75,13 @@ pub(crate) fn first_place(begun: Begun, h: History, chunk: &[u8]) -> Place
     }
 }
 
-// The answer is written, and the next line read.
-pub(crate) fn go_on(turn: Turn, p: Place, chunk: &[u8], out: &mut [u8]) -> Place
+// The answer is written, and the next line read; a refused line leaves the history before it.
+pub(crate) fn go_on(turn: Result<History, Refusal>, p: Place, chunk: &[u8], out: &mut [u8]) -> Place
     requires { (p.end < length chunk.now) × (p.filled + widest ≤ length out.old) }
     ensures { Goes turn p chunk.now out.old out.new result }
 {
-    let filled = p.filled + put_reply(turn.reply, &mut out[p.filled..]);
-    place_at(chunk, p.end + 1, turn.history, filled)
+    let filled = p.filled + put_accepted(turn.map(|_| ()), &mut out[p.filled..]);
+    place_at(chunk, p.end + 1, turn.unwrap_or(p.history), filled)
 }
 
 // The place behind a run.

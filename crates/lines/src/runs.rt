@@ -11,7 +11,7 @@ use crate::short::short_step;
 use crate::text::put_progress;
 use crate::{History, Place, Run, Step};
 use grammar::Command;
-use trie::{Progress, Worker};
+use trie::{Progress, Refusal, Worker};
 
 // The step that the line at a place is, where it steps the history under way.
 fn first_step(p: Place) -> Option<Step>
@@ -39,7 +39,13 @@ pub(crate) fn first_run(p: Place) -> Run
 }
 
 // A step's answer is written, and the line behind it looked at: the run goes on where that is a short step.
-fn pass_step(progress: Progress, step: Step, filled: usize, chunk: &[u8], out: &mut [u8]) -> Run
+fn pass_step(
+    progress: Result<Progress, Refusal>,
+    step: Step,
+    filled: usize,
+    chunk: &[u8],
+    out: &mut [u8],
+) -> Run
     requires { (step.end < length chunk.now) × (filled + widest ≤ length out.old) }
     ensures { Passes progress step filled chunk.now out.old out.new result }
 {

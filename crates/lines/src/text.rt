@@ -3,10 +3,9 @@
 ghost use Rattle.std.specs.Prelude.{◌++◌, ◌+◌, ◌≤◌, length};
 ghost use Rattle.trie.specs.Values.{sums, value_of, accepted_of, progress_of};
 ghost use Rattle.grammar.specs.Text.{Put, decimal, newline, done_text, accepted_text, course_text};
-ghost use Rattle.lines.specs.Replies.{reply_text, widest, Answers};
+ghost use Rattle.lines.specs.Replies.{widest, Answers};
 
-use crate::Reply;
-use trie::{Accepted, Answer, Progress};
+use trie::{Answer, Progress, Refusal};
 
 // The most digits that a number has.
 const DIGITS: usize = 20;
@@ -65,35 +64,24 @@ fn put_answer(answer: Answer, out: &mut [u8]) -> usize
 }
 
 #[tactic(auto, unfolding(grammar::specs::Text::accepted_text))]
-fn put_accepted(accepted: Accepted, out: &mut [u8]) -> usize
+pub(crate) fn put_accepted(accepted: Result<(), Refusal>, out: &mut [u8]) -> usize
     requires { widest ≤ length out.old }
     ensures { Answers (accepted_text (accepted_of accepted)) out.old out.new result }
 {
     match accepted {
-        Accepted::Refused(number) => spell_line(b"refused ", number, out),
-        Accepted::Ok => put(b"ok\n", out),
+        Ok(()) => put(b"ok\n", out),
+        Err(refusal) => spell_line(b"refused ", u64::from(refusal), out),
     }
 }
 
 #[tactic(auto, unfolding(grammar::specs::Text::course_text))]
-pub(crate) fn put_progress(progress: Progress, out: &mut [u8]) -> usize
+pub(crate) fn put_progress(progress: Result<Progress, Refusal>, out: &mut [u8]) -> usize
     requires { widest ≤ length out.old }
     ensures { Answers (course_text (progress_of progress)) out.old out.new result }
 {
     match progress {
-        Progress::Refused(number) => spell_line(b"refused ", number, out),
-        Progress::On => put(b"on\n", out),
-        Progress::Done(answer) => put_answer(answer, out),
-    }
-}
-
-#[tactic(auto, unfolding(crate::specs::Replies::reply_text))]
-pub(crate) fn put_reply(reply: Reply, out: &mut [u8]) -> usize
-    requires { widest ≤ length out.old }
-    ensures { Answers (reply_text reply) out.old out.new result }
-{
-    match reply {
-        Reply::Accepted(accepted) => put_accepted(accepted, out),
-        Reply::Progress(progress) => put_progress(progress, out),
+        Ok(Progress::On) => put(b"on\n", out),
+        Ok(Progress::Done(answer)) => put_answer(answer, out),
+        Err(refusal) => spell_line(b"refused ", u64::from(refusal), out),
     }
 }
