@@ -20,6 +20,7 @@ pub fn height(n: u64) -> u64
 }
 
 // The ancestor of x that many levels up, and 0 above the root.
+// No `checked_shr`: it takes 32 bits, and a number of levels that has more would be cut first.
 pub fn ancestor(x: u64, levels: u64) -> u64
     ensures { result ≡ x / 2 ^ levels }
 {
