@@ -76,7 +76,10 @@ pub(crate) fn take_turn(
     requires { Roomy nodes.old versions.old × (stepping line h ≡ false) }
     ensures { turned result h nodes.new versions.new board.new ≡ line_turn line (watch h nodes.old versions.old board.old) }
 {
-    match line.ok_or(Refusal::Command)? {
+    let Some(command) = line else {
+        return Err(Refusal::Command);
+    };
+    match command {
         Command::Step(_) => Err(Refusal::Command),
         Command::Start(worker, operation) => {
             start_turn(worker, operation, h, nodes, versions, board)
