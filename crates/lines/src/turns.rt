@@ -12,6 +12,7 @@ use grammar::Command;
 use trie::{Operation, Refusal, Worker};
 
 // A start leaves the history as it is; before the first accepted open it is refused with 10.
+#[tactic(auto, unfolding(crate::specs::Turns::start_line, grammar::specs::Text::accepted_text))]
 fn start_turn(
     worker: u64,
     operation: Operation,
@@ -40,6 +41,7 @@ fn start_turn(
 }
 
 // An open of more than 16 cells is refused with 1; where it is accepted, its N, W and V are the history, whatever was before.
+#[tactic(auto, unfolding(crate::specs::Turns::open_line, grammar::specs::Text::accepted_text))]
 fn open_turn(
     asked: History,
     nodes: &mut [u64],
@@ -76,7 +78,10 @@ pub(crate) fn take_turn(
     requires { Roomy nodes.old versions.old × (stepping line h ≡ false) }
     ensures { turned result h nodes.new versions.new board.new ≡ line_turn line (watch h nodes.old versions.old board.old) }
 {
-    match line.ok_or(Refusal::Command)? {
+    let Some(command) = line else {
+        return Err(Refusal::Command);
+    };
+    match command {
         Command::Step(_) => Err(Refusal::Command),
         Command::Start(worker, operation) => {
             start_turn(worker, operation, h, nodes, versions, board)

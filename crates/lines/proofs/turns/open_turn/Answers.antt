@@ -1,17 +1,11 @@
 -- An open is lent the words of V versions, which the version table has; where it is refused, all is as it was.
 -- Assumes nothing.
 use Rattle.std.proofs.Common.{Ok, Err, ap, ◌∙◌, arith}
-use borrow.Author.Tests.{lt-leb, le-leb}
+use borrow.Author.Tests.{le-leb}
 use Rattle.std.proofs.lemmas.Result.{err_from_is_err_and}
-use Rattle.grammar.specs.Text.{accepted_text}
 use Rattle.lines.specs.Watch.{most_cells}
-use Rattle.lines.specs.Turns.{open_line}
 use Rattle.lines.proofs.Taken.{open_taken}
 use Rattle.lines.proofs.turns.open_turn.Goals as goal
-
-pub returns-then-asked-gt-LISTED_CELLS : goal.returns-then-asked-gt-LISTED_CELLS
-unfolding open_line accepted_text
-returns-then-asked-gt-LISTED_CELLS c h = rw (lt-leb c.args.asked.cells most_cells c.if-asked-gt-LISTED_CELLS.true)
 
 pub returns-in_err-open : goal.returns-in_err-open
 returns-in_err-open c h =

@@ -2,14 +2,8 @@
 -- Assumes nothing.
 use Rattle.std.proofs.Common.{Ok, Err, sym, ap, ◌∙◌}
 use Rattle.std.proofs.lemmas.Result.{err_from_is_err_and}
-use Rattle.grammar.specs.Text.{accepted_text}
-use Rattle.lines.specs.Turns.{start_line}
 use Rattle.lines.proofs.Taken.{start_taken}
 use Rattle.lines.proofs.turns.start_turn.Goals as goal
-
-pub returns-then-not-is_open : goal.returns-then-not-is_open
-unfolding start_line accepted_text
-returns-then-not-is_open c = rw (sym c.is_open.ensures ∙ c.if-not-is_open.true)
 
 pub returns-in_err-start : goal.returns-in_err-start
 returns-in_err-start c =
