@@ -3,11 +3,22 @@
 ghost use Rattle.std.specs.Prelude.{◌≡◌};
 ghost use Rattle.trie.specs.Values.{value_of};
 ghost use Rattle.kitesonnet.specs.Answers.{answer_put, value_put};
+ghost use Rattle.kitesonnet.specs.Calls.{number_by};
 
 use tables::put;
-use trie::Answer;
+use trie::{Answer, Refusal};
 
-// The kinds of answers.
+// What C is told of a call: 0, or the refusal's number.
+pub(crate) fn number(told: Result<(), Refusal>) -> u64
+    ensures { result ≡ number_by told }
+{
+    match told {
+        Ok(()) => 0,
+        Err(refusal) => u64::from(refusal),
+    }
+}
+
+// The kinds of answers, as C names them. `Answer` is the enum of them, so that none stands between it and the numbers.
 pub(crate) const ON_KIND: u64 = 0;
 
 const YES_KIND: u64 = 1;
@@ -25,6 +36,7 @@ const SUMS_KIND: u64 = 6;
 pub(crate) const ENERGY_KIND: u64 = 7;
 
 // The kind of an answer and its two values.
+#[tactic(auto, unfolding(crate::specs::Answers::answer_put))]
 pub(crate) fn put_answer(answer: &mut [u64], kind: u64, first: u64, second: u64)
     ensures { answer.new ≡ answer_put answer.old kind first second }
 {
