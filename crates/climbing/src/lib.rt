@@ -20,6 +20,7 @@ use trie::{
 };
 
 // Done with a node: at the root the update answers, else it goes on at the parent.
+#[inline(always)]
 fn rise(c: Climb, made: u64) -> Next
     ensures { result ≡ rises c made }
 {
@@ -35,6 +36,7 @@ fn rise(c: Climb, made: u64) -> Next
 }
 
 // A failed swap adds no version. One second refresh, and no third: with it the mark is up, whoever put it there.
+#[inline(always)]
 fn miss(c: Climb) -> Next
     ensures { result ≡ missed c }
 {
@@ -48,6 +50,7 @@ fn miss(c: Climb) -> Next
     }
 }
 
+#[inline(always)]
 fn hold(c: Climb, held: Held) -> Result<Plan, Damage>
     ensures { result ≡ holds c held }
 {
@@ -57,6 +60,7 @@ fn hold(c: Climb, held: Held) -> Result<Plan, Damage>
 }
 
 // Where the node still has the version read, the sum of its children takes its place.
+#[inline(always)]
 fn place_sum(b: Bounds, c: Climb, now: u64, v: VersionNumber, sum: Version) -> Result<Plan, Damage>
     ensures { result ≡ place_sum b c now v sum }
 {
@@ -71,6 +75,7 @@ fn place_sum(b: Bounds, c: Climb, now: u64, v: VersionNumber, sum: Version) -> R
 }
 
 // The sums are judged before they are formed.
+#[inline(always)]
 fn join(b: Bounds, l: VersionNumber, r: VersionNumber, versions: &[u64]) -> Result<Version, Damage>
     ensures { result
         ≡ pick

@@ -8,5 +8,3 @@ pub mod CallLaws
 pub mod SaidLaws
 pub mod Runs
 pub mod Decided
--- What several functions of this crate use: how a call comes to what it comes to.
-mod Comes

@@ -1,27 +1,29 @@
 -- The sum from the board's words is document 01's where all of them are records, and else damage; and it is small enough to be added.
 -- Assumes nothing.
 use Rattle.std.proofs.Math.Path.{◌≡◌, refl}
-use Rattle.std.proofs.Common.{sym, ap, subst, ◌∙◌}
-use Rattle.std.specs.Prelude.{is_some, Bool, true, false, ◌&&◌, List, leb, take, drop, Option, None, Some}
-use Prim.Native.Nat.{ℕ, zero, suc, ◌+◌, ◌*◌, ◌-◌, ◌≤◌}
+use Rattle.std.proofs.Common.{sym, ap, subst, ◌∙◌, leb-true, leb-false}
+use Rattle.std.specs.Prelude.{is_some, Bool, true, false, ◌&&◌, List, leb, take, drop, Option, None, Some, Result}
+use Prim.Native.Nat.{ℕ, zero, suc, ◌+◌, ◌*◌, ◌-◌, ◌≤◌, ◌<◌}
 use native.Mathlib.Numerals.{add-one}
 use native.Mathlib.Omega.{arith}
+use Rattle.std.proofs.lemmas.Nat.{trailing_le}
 use Rattle.trie.specs.declared.Phase.{Phase}
-use Rattle.trie.specs.declared.Promised.{Promised}
+use Rattle.trie.specs.declared.Damage.{Damage}
 use Rattle.trie.specs.declared.Worker.{Worker}
 use Rattle.trie.specs.Choice.{pick}
-use Rattle.trie.specs.Size.{most_workers}
+use Rattle.trie.specs.Size.{height_of}
+use Rattle.trie.specs.Refusing.{damaged}
 use Rattle.trie.specs.Record.{owed_phase, together, promised_of}
 use Rattle.kitesonnet.specs.Reading.{record_of}
 use Rattle.kitesonnet.specs.Seats.{record_words, record_at, readable, workers_in}
 use Rattle.kitesonnet.proofs.SeatLaws.{at_next}
-use Rattle.kitesonnet.specs.Promising.{owed_in, promised_in, most_share, Most, Small}
+use Rattle.kitesonnet.specs.Promising.{owed_in, promised_in, most_share}
 
 -- ---- it is document 01's sum
 
-damaged_last : (p : Promised) → together p Promised.Damaged ≡ Promised.Damaged
-damaged_last Promised.Damaged = refl
-damaged_last (Promised.Of a) = refl
+damaged_last : (p : Result ℕ Damage) → together p damaged ≡ damaged
+damaged_last (Result.Err d) = refl
+damaged_last (Result.Ok a) = refl
 
 module _ (share : ℕ) where
   sum_by : (r : Option Worker) (b : Bool) (w k : ℕ) (words : List ℕ) → r ≡ record_of (take record_words words) → is_some r && b ≡ true
@@ -40,12 +42,12 @@ module _ (share : ℕ) where
 
   -- ---- else it is damage
 
-  damage_by : (r : Option Worker) (b : Bool) (w : ℕ) (words : List ℕ) → is_some r && b ≡ false → (b ≡ false → promised_in share w words ≡ Promised.Damaged)
-      → together (owed_in share r) (promised_in share w words) ≡ Promised.Damaged
+  damage_by : (r : Option Worker) (b : Bool) (w : ℕ) (words : List ℕ) → is_some r && b ≡ false → (b ≡ false → promised_in share w words ≡ damaged)
+      → together (owed_in share r) (promised_in share w words) ≡ damaged
   damage_by None b w words t h = refl
   damage_by (Some r) b w words t h = ap (together (owed_phase share r.phase)) (h t) ∙ damaged_last (owed_phase share r.phase)
 
-  pub promised_damaged : (w : ℕ) (words : List ℕ) → readable w words ≡ false → promised_in share w words ≡ Promised.Damaged
+  pub promised_damaged : (w : ℕ) (words : List ℕ) → readable w words ≡ false → promised_in share w words ≡ damaged
   unfolding readable promised_in
   promised_damaged zero words e = absurd (let z : ◌≡◌ {A = ℕ} 0 1 = cc in omega arith)
   promised_damaged (suc w) words e =
@@ -53,77 +55,71 @@ module _ (share : ℕ) where
 
 -- ---- how large it can be
 
-module _ (share : ℕ) where
-  left_most : (made : ℕ) (t : Bool) → Most share (pick t (Promised.Of (share - made)) Promised.Damaged)
-  left_most made true = omega arith
+-- a number, if it is one, is at most k
+abbrev pub Most : ℕ → Result ℕ Damage → Type 0
+Most k (Result.Err d) = 0 ≤ k
+Most k (Result.Ok a) = a ≤ k
+
+together_most : (p q : Result ℕ Damage) (j k n : ℕ) → j + k ≤ n → Most j p → Most k q → Most n (together p q)
+together_most (Result.Err d) q j k n l g h = omega arith
+together_most (Result.Ok a) (Result.Err d) j k n l g h = omega arith
+together_most (Result.Ok a) (Result.Ok b) j k n l g h = omega (arith, l, g, h)
+
+module _ (share : ℕ) (l : share ≤ most_share) where
+  left_most : (made : ℕ) (t : Bool) → Most most_share (pick t (Result.Ok (share - made)) damaged)
+  left_most made true = omega (arith, l)
   left_most made false = omega arith
 
-  owed_most : (p : Phase) → Most share (owed_phase share p)
+  pub owed_most : (p : Phase) → Most most_share (owed_phase share p)
   owed_most Phase.Idle = omega arith
-  owed_most (Phase.Read u) = omega arith
-  owed_most (Phase.Swap u v) = omega arith
+  owed_most (Phase.Read u) = omega (arith, l)
+  owed_most (Phase.Swap u v) = omega (arith, l)
   owed_most (Phase.Refresh c s) = left_most c.made (leb c.made share)
   owed_most (Phase.Ask q) = omega arith
   owed_most (Phase.Find k s) = omega arith
   owed_most (Phase.Rank k s c e) = omega arith
   owed_most (Phase.Select j s x c) = omega arith
 
-  pub owed_in_most : (r : Option Worker) → Most share (owed_in share r)
+  owed_in_most : (r : Option Worker) → Most most_share (owed_in share r)
   owed_in_most None = omega arith
   owed_in_most (Some r) = owed_most r.phase
 
-  together_most : (p q : Promised) (k : ℕ) → Most share p → Most k q → Most (share + k) (together p q)
-  together_most Promised.Damaged q k h l = omega arith
-  together_most (Promised.Of a) Promised.Damaged k h l = omega arith
-  together_most (Promised.Of a) (Promised.Of b) k h l = omega (arith, h, l)
-
-  -- so many shares
-  unfoldable pub shares : ℕ → ℕ
-  shares zero = 0
-  shares (suc w) = share + shares w
-
-  pub promised_most : (w : ℕ) (words : List ℕ) → Most (shares w) (promised_in share w words)
-  unfolding promised_in shares
+  promised_most : (w : ℕ) (words : List ℕ) → Most (w * most_share) (promised_in share w words)
+  unfolding promised_in
   promised_most zero words = omega arith
   promised_most (suc w) words =
-      together_most (owed_in share (record_of (take record_words words))) (promised_in share w (drop record_words words)) (shares w) (owed_in_most (record_of (take record_words words)))
+      together_most (owed_in share (record_of (take record_words words))) (promised_in share w (drop record_words words)) most_share (w * most_share) _ (omega arith) (owed_in_most (record_of (take record_words words)))
       (promised_most w (drop record_words words))
 
--- ---- so the sums of a board can be added
+-- the sum so far, and what one worker more may make
+pub promised_small : (share w : ℕ) (words : List ℕ) (a : ℕ) → share ≤ most_share → Result.Ok a ≡ promised_in share w words → a ≤ w * most_share
+promised_small share w words a l e = subst (Most (w * most_share)) (sym e) (promised_most share l w words)
 
-most_up : (p : Promised) (j k : ℕ) → j ≤ k → Most j p → Most k p
-most_up Promised.Damaged j k l h = omega arith
-most_up (Promised.Of a) j k l h = omega (arith, l, h)
+pub owed_small : (share : ℕ) (p : Phase) (a : ℕ) → share ≤ most_share → Result.Ok a ≡ owed_phase share p → a ≤ most_share
+owed_small share p a l e = subst (Most most_share) (sym e) (owed_most share l p)
 
-shares_most : (share : ℕ) → share ≤ most_share → (w : ℕ) → shares share w ≤ w * most_share
-unfolding shares
-shares_most share l zero = omega arith
-shares_most share l (suc w) = omega (arith, l, shares_most share l w)
-
-pub owed_small : (share : ℕ) (r : Option Worker) (p : Promised) → p ≡ owed_in share r → share ≤ most_share → Small p
-owed_small share r p e l = subst Small (sym e) (most_up (owed_in share r) share (most_workers * most_share) (omega (arith, l)) (owed_in_most share r))
-
-pub promised_small : (share w : ℕ) (words : List ℕ) (p : Promised) → p ≡ promised_in share w words → share ≤ most_share → w ≤ most_workers → Small p
-promised_small share w words p e l m = subst Small (sym e) (most_up (promised_in share w words) (shares share w) (most_workers * most_share) (omega (arith, shares_most share l w, m)) (promised_most share w words))
+pub share_small : (n : ℕ) → height_of n + 1 ≤ most_share
+unfolding height_of
+share_small n = omega (arith, trailing_le 64 n)
 
 -- ---- one worker more
 
-together_assoc : (p q r : Promised) → together (together p q) r ≡ together p (together q r)
-together_assoc Promised.Damaged q r = refl
-together_assoc (Promised.Of a) Promised.Damaged r = refl
-together_assoc (Promised.Of a) (Promised.Of b) Promised.Damaged = refl
-together_assoc (Promised.Of a) (Promised.Of b) (Promised.Of c) =
+together_assoc : (p q r : Result ℕ Damage) → together (together p q) r ≡ together p (together q r)
+together_assoc (Result.Err d) q r = refl
+together_assoc (Result.Ok a) (Result.Err d) r = refl
+together_assoc (Result.Ok a) (Result.Ok b) (Result.Err d) = refl
+together_assoc (Result.Ok a) (Result.Ok b) (Result.Ok c) =
     let e : a + b + c ≡ a + (b + c) = omega arith in
-    ap Promised.Of e
+    ap Result.Ok e
 
-nothing_first : (p : Promised) → together (Promised.Of 0) p ≡ together p (Promised.Of 0)
-nothing_first Promised.Damaged = refl
-nothing_first (Promised.Of a) =
+nothing_first : (p : Result ℕ Damage) → together (Result.Ok 0) p ≡ together p (Result.Ok 0)
+nothing_first (Result.Err d) = refl
+nothing_first (Result.Ok a) =
     let e : 0 + a ≡ a + 0 = omega arith in
-    ap Promised.Of e
+    ap Result.Ok e
 
 -- none yet, and one more, as the loop that sums has it
-pub promised_none : (share : ℕ) (words : List ℕ) → Promised.Of 0 ≡ promised_in share 0 words
+pub promised_none : (share : ℕ) (words : List ℕ) → Result.Ok 0 ≡ promised_in share 0 words
 unfolding promised_in
 promised_none share words = refl
 
@@ -137,3 +133,21 @@ promised_suc share (suc i) words =
 
 pub promised_more : (share i : ℕ) (words : List ℕ) → together (promised_in share i words) (owed_in share (record_at words i)) ≡ promised_in share (i + 1) words
 promised_more share i words = promised_suc share i words ∙ ap (λ (k : ℕ). promised_in share k words) (sym (add-one i))
+
+-- damage before the last worker is damage of all
+damaged_by : (share i w : ℕ) (words : List ℕ) (b : Bool) → leb i w ≡ b → i ≤ suc w → promised_in share i words ≡ damaged → (i ≤ w → promised_in share w words ≡ damaged) → promised_in share (suc w) words ≡ damaged
+damaged_by share i w words true t l e h = sym (promised_suc share w words) ∙ ap (λ (p : Result ℕ Damage). together p (owed_in share (record_at words w))) (h (leb-true i w t))
+damaged_by share i w words false t l e h =
+    let z : suc w ≡ i = omega (arith, l, leb-false i w t) in
+    ap (λ (k : ℕ). promised_in share k words) z ∙ e
+
+damaged_on : (share i w : ℕ) (words : List ℕ) → i ≤ w → promised_in share i words ≡ damaged → promised_in share w words ≡ damaged
+damaged_on share i zero words l e =
+    let z : 0 ≡ i = omega (arith, l) in
+    ap (λ (k : ℕ). promised_in share k words) z ∙ e
+damaged_on share i (suc w) words l e = damaged_by share i w words (leb i w) refl l e (λ m. damaged_on share i w words m e)
+
+-- and so is one worker's part that is damage
+pub damaged_at : (share i w : ℕ) (words : List ℕ) → i < w → owed_in share (record_at words i) ≡ damaged → promised_in share w words ≡ damaged
+damaged_at share i w words l g =
+    damaged_on share (suc i) w words l (sym (promised_suc share i words) ∙ ap (together (promised_in share i words)) g ∙ damaged_last (promised_in share i words))

@@ -1,11 +1,12 @@
 -- Any list of calls in words comes to what the same calls on the records come to, from an accepted open on.
 -- So what is shown of histories holds for a program that links the library. Assumes nothing.
-use Rattle.std.specs.Prelude.{is_some, ◌≡◌, Bool, List, [], ◌∷◌, ℕ, ◌≤◌, ◌<◌, eqb, leb, length, get_or, Option, None, Some}
+use Rattle.std.specs.Prelude.{is_some, ◌≡◌, Bool, List, [], ◌∷◌, ℕ, ◌≤◌, ◌<◌, leb, length, get_or, Option, None, Some, ⊤, Result}
 use Rattle.std.proofs.Math.Path.{refl, ap, subst}
 use Rattle.std.proofs.Common.{sym, ◌∙◌, arith}
 use Rattle.std.proofs.Math.Bool.{true, false}
 use Rattle.decibel.specs.Told.{Told, refused, gives}
 use Rattle.trie.specs.declared.Operation.{Operation}
+use Rattle.trie.specs.declared.Refusal.{Refusal}
 use Rattle.trie.specs.declared.Worker.{Worker}
 use Rattle.trie.specs.Size.{allowed}
 use Rattle.trie.specs.Tables.{roomy}
@@ -59,8 +60,8 @@ module _ (n w : ℕ) (answer nodes versions board : List ℕ) (long : leb answer
   s = lent nodes versions board
 
   module _ (i : ℕ) where
-    abbrev judged : Bool
-    judged = eqb (judged_in n w i nodes versions board) 0
+    abbrev judged : Result ⊤ Refusal
+    judged = judged_in n w i nodes versions board
 
     -- one record written, or nothing: every worker's words are still a record
     kept : {A : Type 0} (t : Told A) (nodes' versions' : List ℕ) (v : Worker) → i < seats_of board → readable w (returned t s (lent nodes' versions' (seat_put board i v))).lent.board ≡ true
@@ -70,10 +71,10 @@ module _ (n w : ℕ) (answer nodes versions board : List ℕ) (long : leb answer
     at_seat : {A : Type 0} (a : After A) → i < seats_of board → readable w (writes_at i s a).lent.board ≡ true
     at_seat a h = kept a.told a.state.nodes a.state.versions (get_or a.state.board i idle) h
 
-    start_said_lem : (o : Operation) (b : Bool) → judged ≡ b → readable w (writes_at i s (start_of n w i o (state_of s))).lent.board ≡ true
+    start_said_lem : (o : Operation) (b : Result ⊤ Refusal) → judged ≡ b → readable w (writes_at i s (start_of n w i o (state_of s))).lent.board ≡ true
     unfolding start_of
-    start_said_lem o true e = at_seat (start_of n w i o (state_of s)) (seats_so nodes versions board n w i e)
-    start_said_lem o false e = subst (λ (a : After Ok). readable w (writes_at i s a).lent.board ≡ true) (sym (call_judged n w i nodes versions board _ e)) said_all
+    start_said_lem o (Result.Ok tt) e = at_seat (start_of n w i o (state_of s)) (seats_so nodes versions board n w i e)
+    start_said_lem o (Result.Err refusal) e = subst (λ (a : After Ok). readable w (writes_at i s a).lent.board ≡ true) (sym (call_judged n w i nodes versions board _ e)) said_all
 
     start_by : (x : Option Operation) (kind first second : ℕ) → operation_of kind first second ≡ x
         → (state_of (kite_start_of n w i kind first second s).lent ≡ start_on x n w i (state_of s)) × (readable w (kite_start_of n w i kind first second s).lent.board ≡ true)
@@ -92,19 +93,19 @@ module _ (n w : ℕ) (answer nodes versions board : List ℕ) (long : leb answer
     step_of_lem None e g = absurd (let z : ◌≡◌ {A = ℕ} 0 1 = cc in omega arith)
     step_of_lem (Some r) e g = step_is nodes versions board n w i r answer e long
 
-    step_by : (b : Bool) → judged ≡ b → state_of (kite_step_of n w i s answer).lent ≡ (step_of n w i (state_of s)).state
+    step_by : (b : Result ⊤ Refusal) → judged ≡ b → state_of (kite_step_of n w i s answer).lent ≡ (step_of n w i (state_of s)).state
     unfolding kite_step_of
-    step_by true e = step_of_lem (record_at board i) refl (readable_one w board i said_all (sits n w i nodes versions board e).below)
-    step_by false e = ap (λ (b : Bool). state_of (step_roomy b n w i s answer).lent) long ∙ step_stopped nodes versions board n w i (record_at board i) e
+    step_by (Result.Ok tt) e = step_of_lem (record_at board i) refl (readable_one w board i said_all (sits n w i nodes versions board e).below)
+    step_by (Result.Err refusal) e = ap (λ (b : Bool). state_of (step_roomy b n w i s answer).lent) long ∙ step_stopped nodes versions board n w i (record_at board i) e
 
-    stopped : (x : Option Worker) → judged ≡ false → readable w (writes_at i s (step_said x n w i (state_of s))).lent.board ≡ true
+    stopped : {refusal : Refusal} (x : Option Worker) → judged ≡ Result.Err refusal → readable w (writes_at i s (step_said x n w i (state_of s))).lent.board ≡ true
     unfolding step_of
     stopped None e = subst (λ (a : After Course). readable w (writes_at i s a).lent.board ≡ true) (sym (call_judged n w i nodes versions board _ e)) said_all
     stopped (Some r) e = subst (λ (a : After Course). readable w (writes_at i s a).lent.board ≡ true) (sym (call_judged n w i nodes versions board _ e)) said_all
 
-    step_said_lem : (b : Bool) → judged ≡ b → readable w (writes_at i s (step_said (record_at board i) n w i (state_of s))).lent.board ≡ true
-    step_said_lem true e = at_seat (step_said (record_at board i) n w i (state_of s)) (seats_so nodes versions board n w i e)
-    step_said_lem false e = stopped (record_at board i) e
+    step_said_lem : (b : Result ⊤ Refusal) → judged ≡ b → readable w (writes_at i s (step_said (record_at board i) n w i (state_of s))).lent.board ≡ true
+    step_said_lem (Result.Ok tt) e = at_seat (step_said (record_at board i) n w i (state_of s)) (seats_so nodes versions board n w i e)
+    step_said_lem (Result.Err refusal) e = stopped (record_at board i) e
 
     step_kept : readable w (kite_step_of n w i s answer).lent.board ≡ true
     unfolding kite_step_of

@@ -1,6 +1,6 @@
 -- Each call in words is document 01's call on the state that the words say: the words after it say the records after it, and it tells the same.
 -- Assumes nothing.
-use Rattle.std.specs.Prelude.{is_some, ◌≡◌, ◌≢◌, Bool, true, false, ◌&&◌, eqb, ltb, leb, length, get_or, take, drop, Option, None, Some}
+use Rattle.std.specs.Prelude.{is_some, ◌≡◌, ◌≢◌, Bool, true, false, ◌&&◌, eqb, ltb, leb, length, get_or, take, drop, Option, None, Some, ⊤, Result}
 use Rattle.std.proofs.Math.Path.{refl, ap}
 use Rattle.std.proofs.Common.{sym, subst, ◌∙◌, arith, ltb-true, ltb-false, eqb-true, take-append-drop, length-drop, length-set, drop-drop, take_at, drop_at, length-take-le, ext_get_or, get_or-set_same, get_or-set_other}
 use mathlib.Core.List.{List, ◌++◌, append_assoc}
@@ -13,6 +13,7 @@ use Rattle.std.proofs.Math.Seq.{take-length}
 use Rattle.decibel.specs.Told.{Told, refused, gives}
 use Rattle.trie.specs.declared.Operation.{Operation}
 use Rattle.trie.specs.declared.Phase.{Phase}
+use Rattle.trie.specs.declared.Refusal.{Refusal}
 use Rattle.trie.specs.declared.Worker.{Worker}
 use Rattle.trie.specs.Size.{allowed, height_of}
 use Rattle.trie.proofs.SizeLaws.{and_first, and_second}
@@ -37,7 +38,7 @@ use Rattle.kitesonnet.specs.Seats.{seats_rested}
 use Rattle.kitesonnet.proofs.SeatLaws.{said_length, at_next, said_at, seats_rest}
 use Rattle.kitesonnet.specs.Answers.{answer_words}
 use Rattle.kitesonnet.specs.Calls.{Lent, lent, state_of, returned, writes_first, writes_at, kite_open_of, start_said, start_given, kite_start_of, answer_after, step_said, step_told, step_roomy, kite_step_of}
-use Rattle.kitesonnet.proofs.CallLaws.{judged_in, call_judged, sits, manned_seats}
+use Rattle.kitesonnet.proofs.CallLaws.{judged_in, judged_same, call_judged, sits, manned_seats}
 
 -- ---- a record in its seat
 
@@ -194,33 +195,33 @@ module _ (nodes versions board : List ℕ) where
         ∙ ap (state nodes' versions') (said_put board i v h)
 
   module _ (n w i : ℕ) where
-    pub seats_so : eqb (judged_in n w i nodes versions board) 0 ≡ true → i < seats_of board
+    pub seats_so : judged_in n w i nodes versions board ≡ Result.Ok tt → i < seats_of board
     seats_so e = let z = sits n w i nodes versions board e in omega (arith, z.below, z.seats)
 
-    judged_so : (b : Bool) → eqb (judged_in n w i nodes versions board) 0 ≡ b → eqb (judge_of n w i (length nodes) (length versions) (length (said board))) 0 ≡ b
-    judged_so b e = ap (λ (k : ℕ). eqb (judge_of n w i (length nodes) (length versions) k) 0) (said_length board) ∙ e
+    judged_so : (b : Result ⊤ Refusal) → judged_in n w i nodes versions board ≡ b → judge_of n w i (length nodes) (length versions) (length (said board)) ≡ b
+    judged_so b e = judged_same n w i nodes versions board ∙ e
 
-    start_by : (o : Operation) (b : Bool) → eqb (judged_in n w i nodes versions board) 0 ≡ b → state_of (writes_at i s (start_of n w i o (state_of s))).lent ≡ (start_of n w i o (state_of s)).state
-    start_by o true e =
+    start_by : (o : Operation) (b : Result ⊤ Refusal) → judged_in n w i nodes versions board ≡ b → state_of (writes_at i s (start_of n w i o (state_of s))).lent ≡ (start_of n w i o (state_of s)).state
+    start_by o (Result.Ok tt) e =
         let r = start_record_of n o (promised_of (height_of n + 1) w (said board)) (get_or (said board) i idle) nodes versions in
-        subst (λ (a : After Ok). state_of (writes_at i s a).lent ≡ a.state) (sym (start_seated n w i nodes versions (said board) o (judged_so true e)))
+        subst (λ (a : After Ok). state_of (writes_at i s a).lent ≡ a.state) (sym (start_seated n w i nodes versions (said board) o (judged_so _ e)))
         (wrote i (seats_so e) r.told nodes versions r.worker (λ k g. (refl, refl, start_refused (get_or (said board) i idle) k n o (promised_of (height_of n + 1) w (said board)) nodes versions g)))
-    start_by o false e = subst (λ (a : After Ok). state_of (writes_at i s a).lent ≡ a.state) (sym (start_judged n w i nodes versions (said board) o (judged_so false e))) refl
+    start_by o (Result.Err refusal) e = subst (λ (a : After Ok). state_of (writes_at i s a).lent ≡ a.state) (sym (start_judged n w i nodes versions (said board) o (judged_so _ e))) refl
 
-    step_by : (b : Bool) → eqb (judged_in n w i nodes versions board) 0 ≡ b → state_of (writes_at i s (step_of n w i (state_of s))).lent ≡ (step_of n w i (state_of s)).state
-    step_by true e =
+    step_by : (b : Result ⊤ Refusal) → judged_in n w i nodes versions board ≡ b → state_of (writes_at i s (step_of n w i (state_of s))).lent ≡ (step_of n w i (state_of s)).state
+    step_by (Result.Ok tt) e =
         let r = step_record_of n (get_or (said board) i idle) nodes versions in
-        subst (λ (a : After Course). state_of (writes_at i s a).lent ≡ a.state) (sym (step_seated n w i nodes versions (said board) (judged_so true e)))
+        subst (λ (a : After Course). state_of (writes_at i s a).lent ≡ a.state) (sym (step_seated n w i nodes versions (said board) (judged_so _ e)))
         (wrote i (seats_so e) r.told r.nodes r.versions r.worker
         (λ k g. let q = step_refused n (get_or (said board) i idle) nodes versions k g in (ap (λ (x : Stepped). x.nodes) q, ap (λ (x : Stepped). x.versions) q, ap (λ (x : Stepped). x.worker) q)))
-    step_by false e = subst (λ (a : After Course). state_of (writes_at i s a).lent ≡ a.state) (sym (step_judged n w i nodes versions (said board) (judged_so false e))) refl
+    step_by (Result.Err refusal) e = subst (λ (a : After Course). state_of (writes_at i s a).lent ≡ a.state) (sym (step_judged n w i nodes versions (said board) (judged_so _ e))) refl
 
     -- a step that is refused before it comes to a record, whatever the words are
-    pub step_stopped : (x : Option Worker) → eqb (judged_in n w i nodes versions board) 0 ≡ false → state_of (writes_at i s (step_said x n w i (state_of s))).lent ≡ (step_of n w i (state_of s)).state
+    pub step_stopped : {refusal : Refusal} (x : Option Worker) → judged_in n w i nodes versions board ≡ Result.Err refusal → state_of (writes_at i s (step_said x n w i (state_of s))).lent ≡ (step_of n w i (state_of s)).state
     step_stopped None e =
         subst (λ (a : After Course). state_of (writes_at i s a).lent ≡ state_of s) (sym (call_judged n w i nodes versions board (after {A = Course} (refused 9) (state_of s)) e)) refl
-        ∙ sym (ap (λ (a : After Course). a.state) (step_judged n w i nodes versions (said board) (judged_so false e)))
-    step_stopped (Some r) e = step_by false e
+        ∙ sym (ap (λ (a : After Course). a.state) (step_judged n w i nodes versions (said board) (judged_so _ e)))
+    step_stopped (Some r) e = step_by _ e
 
     -- where every worker's words are a record, a start in words is the start of what they say
     pub start_is : (kind first second : ℕ) (o : Operation) → operation_of kind first second ≡ Some o → readable w board ≡ true
@@ -228,14 +229,14 @@ module _ (nodes versions board : List ℕ) where
     unfolding kite_start_of
     start_is kind first second o e g =
         ap (λ (x : Option Operation). state_of (start_given x n w i s).lent) e ∙ ap (λ (b : Bool). state_of (writes_at i s (start_said b n w i o (state_of s))).lent) g
-        ∙ start_by o (eqb (judged_in n w i nodes versions board) 0) refl
+        ∙ start_by o (judged_in n w i nodes versions board) refl
 
     -- where the worker's own words are a record, so is a step
     pub step_is : (r : Worker) (answer : List ℕ) → record_at board i ≡ Some r → leb answer_words (length answer) ≡ true → state_of (kite_step_of n w i s answer).lent ≡ (step_of n w i (state_of s)).state
     unfolding kite_step_of
     step_is r answer e g =
         ap (λ (b : Bool). state_of (step_roomy b n w i s answer).lent) g ∙ ap (λ (x : Option Worker). state_of (writes_at i s (step_said x n w i (state_of s))).lent) e
-        ∙ step_by (eqb (judged_in n w i nodes versions board) 0) refl
+        ∙ step_by (judged_in n w i nodes versions board) refl
 
   -- ---- an open, whatever the words are
 

@@ -1,10 +1,12 @@
 -- The four calls of the library: document 01's calls over the records that the board's words say, told in words.
 -- A refused call leaves every word. Assumes nothing.
-use Rattle.std.specs.Prelude.{Bool, true, false, not, List, ℕ, leb, length, get_or, Option, None, Some}
+use Rattle.std.specs.Prelude.{Bool, true, false, not, List, ℕ, leb, length, get_or, Option, None, Some, ⊤, Result}
 use Rattle.decibel.specs.Told.{Told, refused, gives}
 use Rattle.decibel.specs.Conversion.{convert_of}
 use Rattle.trie.specs.declared.Operation.{Operation}
+use Rattle.trie.specs.declared.Refusal.{Refusal}
 use Rattle.trie.specs.declared.Worker.{Worker}
+use Rattle.trie.specs.Refusing.{number_of}
 use Rattle.trie.specs.Record.{idle, busy, operation_fits}
 use Rattle.trie.specs.Values.{Ok, Course}
 use Rattle.trie.specs.Calls.{State, state, After, after, check, check_call, open_of, start_of, step_of}
@@ -34,6 +36,11 @@ pub record Back : Type 0 where
 
 abbrev pub back : ℕ → Lent → Back
 back number s = record { number = number; lent = s }
+
+-- the number of what a call comes to
+abbrev pub number_by : Result ⊤ Refusal → ℕ
+number_by (Result.Err refusal) = number_of refusal
+number_by (Result.Ok accepted) = 0
 
 -- a refused call leaves the rows as they were; an accepted one has the tables of the state after it, and a board
 abbrev pub returned : {A : Type 0} → Told A → Lent → Lent → Back

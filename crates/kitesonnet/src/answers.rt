@@ -3,9 +3,20 @@
 ghost use Rattle.std.specs.Prelude.{◌≡◌};
 ghost use Rattle.trie.specs.Values.{value_of};
 ghost use Rattle.kitesonnet.specs.Answers.{answer_put, value_put};
+ghost use Rattle.kitesonnet.specs.Calls.{number_by};
 
 use tables::put;
-use trie::Answer;
+use trie::{Answer, Refusal};
+
+// What C is told of a call: 0, or the refusal's number.
+pub(crate) fn number(told: Result<(), Refusal>) -> u64
+    ensures { result ≡ number_by told }
+{
+    match told {
+        Ok(()) => 0,
+        Err(refusal) => u64::from(refusal),
+    }
+}
 
 // The kinds of answers, as C names them. `Answer` is the enum of them, so that none stands between it and the numbers.
 pub(crate) const ON_KIND: u64 = 0;

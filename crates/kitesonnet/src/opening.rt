@@ -1,15 +1,15 @@
 // Opening a tree in lent words: the tables as document 01 has them, and the words of an idle record for each worker.
 // It reads no old words, so that it can begin a new history in any rows that are long enough.
 ghost use Rattle.std.specs.Prelude.{◌≡◌, ◌*◌, ◌≤◌, length};
-ghost use Rattle.kitesonnet.specs.Seats.{record_words};
-ghost use Rattle.kitesonnet.specs.Seats.{seats_rested};
-ghost use Rattle.kitesonnet.specs.Calls.{lent, back, kite_open_of};
+ghost use Rattle.kitesonnet.specs.Seats.{record_words, seats_rested};
+ghost use Rattle.kitesonnet.specs.Calls.{lent, number_by, back, kite_open_of};
 
 use crate::RECORD_WORDS;
+use crate::answers::number;
 use crate::seats::put_record;
 use judging::is_manned;
 use records::rested;
-use trie::Accepted;
+use trie::Refusal;
 
 // Workers 0 to w - 1 rest.
 fn rest(w: usize, board: &mut [u64])
@@ -19,6 +19,28 @@ fn rest(w: usize, board: &mut [u64])
     for i in 0..w {
         put_record(board, i, rested());
     }
+}
+
+#[tactic(auto, using(crate::proofs::CallLaws::manned_seats), unfolding(crate::specs::Calls::kite_open_of))]
+// Nothing rests where the tables are not opened.
+fn open(
+    n: u64,
+    w: u64,
+    nodes: &mut [u64],
+    versions: &mut [u64],
+    board: &mut [u64],
+) -> Result<(), Refusal>
+    ensures { back (number_by result) (lent nodes.new versions.new board.new) ≡ kite_open_of n w (lent nodes.old versions.old board.old) }
+{
+    if !tables::is_allowed(n) {
+        return Err(Refusal::Cells);
+    }
+    if !is_manned(w, board.len() / RECORD_WORDS) {
+        return Err(Refusal::Workers);
+    }
+    steps::open_tables(n, nodes, versions)?;
+    rest(w as usize, board);
+    Ok(())
 }
 
 // Begins a history: refusals 1, 2 and 3.
@@ -32,15 +54,5 @@ pub extern "C" fn kite_open(
 ) -> u64
     ensures { back result (lent nodes.new versions.new board.new) ≡ kite_open_of n w (lent nodes.old versions.old board.old) }
 {
-    if !tables::is_allowed(n) {
-        return 1;
-    }
-    if !is_manned(w, board.len() / RECORD_WORDS) {
-        return 2;
-    }
-    let Accepted::Ok = steps::open_tables(n, nodes, versions) else {
-        return 3;
-    };
-    rest(w as usize, board);
-    0
+    number(open(n, w, nodes, versions, board))
 }

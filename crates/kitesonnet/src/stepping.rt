@@ -1,67 +1,65 @@
 // A step in lent words: the worker's words are read as a record, stepped by value, and written again.
 // What the step tells stands in the answer's words; no other worker's words are read or written.
-ghost use Rattle.std.specs.Prelude.{◌≡◌, ◌+◌, ◌*◌, ◌≤◌, length};
-ghost use Rattle.kitesonnet.specs.Seats.{record_words};
-ghost use Rattle.kitesonnet.specs.Calls.{lent, back, answered, kite_step_of};
-ghost use Rattle.kitesonnet.specs.OneRecord.{moves, moves_in, lost_in, steps_at};
+ghost use Rattle.std.specs.Prelude.{◌≡◌};
+ghost use Rattle.kitesonnet.specs.Calls.{lent, number_by, back, answered, kite_step_of};
+ghost use Rattle.kitesonnet.specs.OneRecord.{lost_in};
 
-use crate::answers::{ON_KIND, put_answer, put_value};
+use crate::answers::{ON_KIND, number, put_answer, put_value};
 use crate::seats::{put_record, record_at};
 use crate::{ANSWER_WORDS, RECORD_WORDS};
 use judging::judge;
 use records::rested;
 use single::step_record;
 use tables::{is_allowed, is_roomy};
-use trie::Moved;
-
-// Writes what a record has moved to, and what its step tells.
-fn record_moved(moved: Moved, i: usize, board: &mut [u64], answer: &mut [u64]) -> u64
-    requires { record_words * i + record_words ≤ length board.old }
-    ensures { moves result board.new answer.new ≡ moves_in i board.old answer.old moved }
-{
-    match moved {
-        Moved::Refused(number) => number as u64,
-        Moved::On(next) => {
-            put_record(board, i, next);
-            put_answer(answer, ON_KIND, 0, 0);
-            0
-        }
-        Moved::Done(value) => {
-            put_record(board, i, rested());
-            put_value(answer, value);
-            0
-        }
-    }
-}
+use trie::{Next, Refusal};
 
 // The refusal of a worker whose words are no record: 1 and 3 go before 9.
-fn refuse_lost(n: u64, nodes: &[u64], versions: &[u64]) -> u64
+fn lost(n: u64, nodes: &[u64], versions: &[u64]) -> Refusal
     ensures { result ≡ lost_in n nodes.now versions.now }
 {
     if !is_allowed(n) {
-        return 1;
+        return Refusal::Cells;
     }
-    if is_roomy(n, nodes, versions) { 9 } else { 3 }
+    if is_roomy(n, nodes, versions) {
+        Refusal::Damaged
+    } else {
+        Refusal::Tables
+    }
 }
 
-// Worker i is one of the board's.
-fn step_seated(
+#[tactic(auto, using(crate::proofs::CallLaws::sits), unfolding(crate::specs::Calls::kite_step_of))]
+fn step(
     n: u64,
-    i: usize,
+    w: u64,
+    i: u64,
     nodes: &mut [u64],
     versions: &mut [u64],
     board: &mut [u64],
     answer: &mut [u64],
-) -> u64
-    requires { record_words * i + record_words ≤ length board.old }
-    ensures { answered (back result (lent nodes.new versions.new board.new)) answer.new
-        ≡ steps_at n i (lent nodes.old versions.old board.old) answer.old }
+) -> Result<(), Refusal>
+    ensures { answered (back (number_by result) (lent nodes.new versions.new board.new)) answer.new
+        ≡ kite_step_of n w i (lent nodes.old versions.old board.old) answer.old }
 {
-    let Some(own) = record_at(board, i) else {
-        return refuse_lost(n, nodes, versions);
+    if answer.len() < ANSWER_WORDS {
+        return Err(Refusal::AnswerRow);
+    }
+    let seats = board.len() / RECORD_WORDS;
+    judge(n, w, i, nodes.len(), versions.len(), seats)?;
+    let at = i as usize;
+    let Some(own) = record_at(board, at) else {
+        return Err(lost(n, nodes, versions));
     };
-    let moved = step_record(n, own, nodes, versions);
-    record_moved(moved, i, board, answer)
+    match step_record(n, own, nodes, versions)? {
+        Next::On(worker) => {
+            put_record(board, at, worker);
+            put_answer(answer, ON_KIND, 0, 0);
+        }
+        Next::Done(value) => {
+            put_record(board, at, rested());
+            put_value(answer, value);
+        }
+    }
+    Ok(())
 }
 
 // Advances worker i: refusals 20, 1, 2, 3, 4, 6 and 9.
@@ -78,19 +76,5 @@ pub extern "C" fn kite_step(
     ensures { answered (back result (lent nodes.new versions.new board.new)) answer.new
         ≡ kite_step_of n w i (lent nodes.old versions.old board.old) answer.old }
 {
-    if answer.len() < ANSWER_WORDS {
-        return 20;
-    }
-    let refusal = judge(
-        n,
-        w,
-        i,
-        nodes.len(),
-        versions.len(),
-        board.len() / RECORD_WORDS,
-    );
-    if refusal != 0 {
-        return refusal;
-    }
-    step_seated(n, i as usize, nodes, versions, board, answer)
+    number(step(n, w, i, nodes, versions, board, answer))
 }

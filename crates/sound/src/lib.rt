@@ -89,6 +89,7 @@ pub fn is_sound_in(b: Bounds, leaf: bool, versions: &[u64], v: VersionNumber) ->
 }
 
 // The number of a version that may stand there, as it stands in the table; any other is damage.
+#[inline(always)]
 pub fn judged(
     b: Bounds,
     leaf: bool,
@@ -115,6 +116,7 @@ pub fn sum_within(a: u64, b: u64, most: u64) -> u64
 }
 
 // A sum that stays within a bound; one that does not is damage.
+#[inline(always)]
 pub fn add_within(a: u64, b: u64, most: u64) -> Result<u64, Damage>
     ensures { result ≡ sum_in a b most }
 {
