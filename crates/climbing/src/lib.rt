@@ -20,7 +20,6 @@ use trie::{
 };
 
 // Done with a node: at the root the update answers, else it goes on at the parent.
-#[inline(always)]
 fn rise(c: Climb, made: u64) -> Next
     ensures { result ≡ rises c made }
 {
@@ -36,7 +35,6 @@ fn rise(c: Climb, made: u64) -> Next
 }
 
 // A failed swap adds no version. One second refresh, and no third: with it the mark is up, whoever put it there.
-#[inline(always)]
 fn miss(c: Climb) -> Next
     ensures { result ≡ missed c }
 {
@@ -50,7 +48,6 @@ fn miss(c: Climb) -> Next
     }
 }
 
-#[inline(always)]
 fn hold(c: Climb, held: Held) -> Result<Plan, Damage>
     ensures { result ≡ holds c held }
 {
@@ -60,6 +57,7 @@ fn hold(c: Climb, held: Held) -> Result<Plan, Damage>
 }
 
 // Where the node still has the version read, the sum of its children takes its place.
+// Inlined: a plan that comes back through memory makes every line of a listing a third longer.
 #[inline(always)]
 fn place_sum(b: Bounds, c: Climb, now: u64, v: VersionNumber, sum: Version) -> Result<Plan, Damage>
     ensures { result ≡ place_sum b c now v sum }

@@ -116,7 +116,6 @@ pub fn sum_within(a: u64, b: u64, most: u64) -> u64
 }
 
 // A sum that stays within a bound; one that does not is damage.
-#[inline(always)]
 pub fn add_within(a: u64, b: u64, most: u64) -> Result<u64, Damage>
     ensures { result ≡ sum_in a b most }
 {
