@@ -6,7 +6,7 @@ ghost use Rattle.trie.specs.Asking.{first_of, ask_of};
 use crate::plans::{answer, go_on};
 use decibel::Energy;
 use records::query_fits;
-use sound::is_sound_in;
+use sound::judged;
 use tables::{load, word};
 use trie::{
     Answer, Bounds, Damage, NodeNumber, Phase, Plan, Query, Standing, Version, VersionNumber,
@@ -40,9 +40,6 @@ pub fn ask(b: Bounds, q: Query, nodes: &[u64], versions: &[u64]) -> Result<Plan,
     if !query_fits(b.cells, q) {
         return Err(Damage);
     }
-    let v = VersionNumber(word(nodes, 1));
-    if !is_sound_in(b, false, versions, v) {
-        return Err(Damage);
-    }
+    let v = judged(b, false, versions, VersionNumber(word(nodes, 1)))?;
     first(q, v, load(versions, v))
 }

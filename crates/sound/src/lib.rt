@@ -108,7 +108,7 @@ pub fn is_within(a: u64, b: u64, most: u64) -> bool
     a <= most && b <= most - a
 }
 
-// A sum that stays within a bound, and 0 for one that does not.
+// A sum that stays within a bound, and 0 for one that does not. It cannot fail, as docs/CONTRACTS.md has it; `add_within` below can.
 pub fn sum_within(a: u64, b: u64, most: u64) -> u64
     ensures { result ≡ pick (leb (a + b) most) (a + b) 0 }
 {

@@ -14,10 +14,7 @@ use trie::{Bounds, Damage, Operation, Phase, Refusal, Worker};
 fn has_room(b: Bounds, promised: u64) -> bool
     ensures { result ≡ leb (b.used + promised + b.share) b.room }
 {
-    match add_within(b.used, promised, b.room) {
-        Ok(sum) => is_within(sum, b.share, b.room),
-        Err(Damage) => false,
-    }
+    add_within(b.used, promised, b.room).is_ok_and(|sum| is_within(sum, b.share, b.room))
 }
 
 // The record with its operation, where there is room for it.
