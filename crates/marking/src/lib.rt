@@ -7,10 +7,8 @@ ghost use Rattle.trie.specs.Choice.{pick};
 ghost use Rattle.trie.specs.Refusing.{damaged};
 ghost use Rattle.trie.specs.Size.{most_cells};
 ghost use Rattle.trie.specs.Record.{update_fits, leaf_of};
-ghost use Rattle.trie.specs.Tables.{version};
 ghost use Rattle.trie.specs.Leaf.{sure, as_wanted, wanted, climbs_from, swapped, read_of, swap_of};
 
-use decibel::{Energy, Level};
 use records::{cell, update_fits};
 use sound::judged;
 use tables::{load, word};
@@ -28,26 +26,19 @@ fn is_as_wanted(u: Update, r: Version) -> bool
     }
 }
 
-fn leaf_version(count: u64, energy: Energy, level: Level) -> Version
-    ensures { result ≡ version 0 0 count energy.0 level.0 }
-{
-    Version {
-        left: VersionNumber(0),
-        right: VersionNumber(0),
-        count,
-        energy,
-        level,
-    }
-}
-
 // The level is converted here, once, by the conversion alone.
 fn new_leaf(n: u64, u: Update) -> Version
     requires { update_fits n u ≡ true }
     ensures { result ≡ wanted u }
 {
     match u {
-        Update::Insert(_, level) => leaf_version(1, decibel::convert(level).unwrap(), level),
-        Update::Delete(_) => leaf_version(0, Energy(0), Level(0)),
+        Update::Insert(_, level) => Version {
+            count: 1,
+            energy: decibel::convert(level).unwrap(),
+            level,
+            ..Version::default()
+        },
+        Update::Delete(_) => Version::default(),
     }
 }
 
