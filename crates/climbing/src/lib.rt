@@ -57,6 +57,8 @@ fn hold(c: Climb, held: Held) -> Result<Plan, Damage>
 }
 
 // Where the node still has the version read, the sum of its children takes its place.
+// Always inlined, as `join` is: behind several `?` the compiler takes a call for rare, and what then goes through memory makes a step a tenth longer.
+#[inline(always)]
 fn place_sum(b: Bounds, c: Climb, now: u64, v: VersionNumber, sum: Version) -> Result<Plan, Damage>
     ensures { result ≡ place_sum b c now v sum }
 {
@@ -71,6 +73,7 @@ fn place_sum(b: Bounds, c: Climb, now: u64, v: VersionNumber, sum: Version) -> R
 }
 
 // The sums are judged before they are formed.
+#[inline(always)]
 fn join(b: Bounds, l: VersionNumber, r: VersionNumber, versions: &[u64]) -> Result<Version, Damage>
     ensures { result
         ≡ pick
