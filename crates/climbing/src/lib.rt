@@ -57,7 +57,7 @@ fn hold(c: Climb, held: Held) -> Result<Plan, Damage>
 }
 
 // Where the node still has the version read, the sum of its children takes its place.
-// Inlined: a plan that comes back through memory makes every line of a listing a third longer.
+// Inlined, as `join` is: behind several `?` the compiler takes a call for rare, and a plan that comes back through memory makes every line of a listing a third longer.
 #[inline(always)]
 fn place_sum(b: Bounds, c: Climb, now: u64, v: VersionNumber, sum: Version) -> Result<Plan, Damage>
     ensures { result ≡ place_sum b c now v sum }

@@ -4,6 +4,7 @@ pub mod RecordLaws
 pub mod StrictLaws
 pub mod PromisingLaws
 pub mod SeatLaws
+pub mod GoesOut
 pub mod CallLaws
 pub mod SaidLaws
 pub mod Runs

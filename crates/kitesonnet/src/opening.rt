@@ -12,6 +12,7 @@ use records::rested;
 use trie::Refusal;
 
 // Workers 0 to w - 1 rest.
+#[tactic(auto, using(crate::proofs::SeatLaws::rested_first, crate::proofs::SeatLaws::rested_on))]
 fn rest(w: usize, board: &mut [u64])
     requires { record_words * w ≤ length board.old }
     ensures { board.new ≡ seats_rested w board.old }
@@ -21,8 +22,8 @@ fn rest(w: usize, board: &mut [u64])
     }
 }
 
-#[tactic(auto, using(crate::proofs::CallLaws::manned_seats), unfolding(crate::specs::Calls::kite_open_of))]
 // Nothing rests where the tables are not opened.
+#[tactic(auto, using(crate::proofs::CallLaws::manned_seats))]
 fn open(
     n: u64,
     w: u64,

@@ -22,6 +22,8 @@ pub(crate) fn record_at(board: &[u64], i: usize) -> Option<Worker>
 
 // The record of worker i, written in its words.
 // Word by word: copied as a slice, words that are just made are waited for, and a step takes a third longer.
+// Always inlined, as `words_of` is: behind several `?` the compiler takes a call for rare, and with words handed on in memory a step takes half as long again.
+#[inline(always)]
 pub(crate) fn put_record(board: &mut [u64], i: usize, w: Worker)
     requires { record_words * i + record_words ≤ length board.old }
     ensures { board.new ≡ seat_put board.old i w }

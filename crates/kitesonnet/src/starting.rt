@@ -12,6 +12,7 @@ use judging::judge;
 use records::rested;
 use trie::Refusal;
 
+// An accepted start is recorded; a refused one writes nothing.
 #[tactic(auto, using(crate::proofs::CallLaws::sits), unfolding(crate::specs::Calls::kite_start_of))]
 fn start(
     n: u64,

@@ -27,6 +27,7 @@ fn lost(n: u64, nodes: &[u64], versions: &[u64]) -> Refusal
     }
 }
 
+// After an answer the words are those of an idle record.
 #[tactic(auto, using(crate::proofs::CallLaws::sits), unfolding(crate::specs::Calls::kite_step_of))]
 fn step(
     n: u64,

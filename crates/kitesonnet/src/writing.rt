@@ -124,7 +124,9 @@ fn query_words(phase: u64, k: u64, at: Standing, fourth: u64, fifth: u64) -> [u6
     ]
 }
 
+// Always inlined, for the reason that stands at `put_record`.
 #[tactic(auto, unfolding(crate::specs::Writing::words_of))]
+#[inline(always)]
 pub(crate) fn words_of(w: Worker) -> [u64; RECORD_WORDS]
     ensures { result ≡ words_of w }
 {

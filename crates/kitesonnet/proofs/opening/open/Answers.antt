@@ -1,7 +1,7 @@
 -- An open of lent words is refused by its numbers or its tables; else the tables are opened, and then the workers rest.
 -- Assumes nothing.
 use Rattle.std.proofs.Common.{◌∙◌, List, ℕ, sym, ap}
-use Rattle.steps.proofs.Damages.{goes_out}
+use Rattle.kitesonnet.proofs.GoesOut.{goes_out}
 use Rattle.kitesonnet.specs.Calls.{lent, back}
 use Rattle.kitesonnet.proofs.CallLaws.{open_sized, open_manned, open_short, open_fresh}
 use Rattle.kitesonnet.proofs.opening.open.Goals as goal

@@ -7,7 +7,7 @@ use Rattle.trie.specs.declared.Operation.{Operation}
 use Rattle.trie.specs.declared.Worker.{Worker}
 use Rattle.trie.specs.Size.{height_of}
 use Rattle.trie.specs.Starting.{Started, start_record_of}
-use Rattle.steps.proofs.Damages.{goes_out}
+use Rattle.kitesonnet.proofs.GoesOut.{goes_out}
 use Rattle.kitesonnet.specs.Operations.{operation_of}
 use Rattle.kitesonnet.specs.Seats.{record_at, worker_of}
 use Rattle.kitesonnet.specs.Calls.{lent, back, start_given, kite_start_of}

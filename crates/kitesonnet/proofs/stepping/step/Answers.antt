@@ -7,7 +7,7 @@ use Rattle.trie.specs.Refusing.{number_of}
 use Rattle.trie.specs.declared.Refusal.{Refusal}
 use Rattle.trie.specs.declared.Worker.{Worker}
 use Rattle.trie.specs.Stepping.{stepped_by, step_record_of}
-use Rattle.steps.proofs.Damages.{goes_out}
+use Rattle.kitesonnet.proofs.GoesOut.{goes_out}
 use Rattle.kitesonnet.specs.Seats.{record_at}
 use Rattle.kitesonnet.specs.Answers.{answer_words}
 use Rattle.kitesonnet.specs.Calls.{lent, back, Answered, answered, step_roomy, kite_step_of}
