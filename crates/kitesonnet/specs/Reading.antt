@@ -12,7 +12,7 @@ use Rattle.trie.specs.Choice.{pick}
 use Rattle.kitesonnet.specs.Operations.{update_of, query_of}
 use Rattle.kitesonnet.specs.Writing.{idle_phase, read_phase, swap_phase, climb_phase, ask_phase, find_phase, rank_phase, select_phase}
 
--- the value's, where there is one
+-- the second reading goes on from what the first gives, and gives nothing where that gives nothing
 infixl 10 ◌>>=◌
 abbrev pub ◌>>=◌ : {A B : Type 0} → Option A → (A → Option B) → Option B
 o >>= f = option_and_then f o

@@ -81,7 +81,9 @@ pub fn is_sound(b: Bounds, leaf: bool, v: VersionNumber, r: Version) -> bool
 }
 
 // The version of number v, as it stands in the table; it is read only where there is such a number.
+// Inlined, as `judged` is: a call for each of a refresh's versions makes every step a tenth longer.
 #[tactic(auto, unfolding(trie::specs::Sound::sound_in, trie::specs::Sound::sound_at))]
+#[inline(always)]
 pub fn is_sound_in(b: Bounds, leaf: bool, versions: &[u64], v: VersionNumber) -> bool
     ensures { result ≡ sound_in b leaf versions.now v }
 {
