@@ -7,7 +7,7 @@ ghost use Rattle.lines.specs.Replies.{widest};
 ghost use Rattle.lines.specs.Places.{Closes};
 
 use crate::keeping::close;
-use crate::places::{first_place, go_on, place_after};
+use crate::places::{first_place, go_on, whole_line};
 use crate::runs::{first_run, serve_steps};
 use crate::turns::take_turn;
 use crate::{
@@ -34,7 +34,7 @@ fn serve_lines(
         let run = first_run(p);
         if run.step.is_some() {
             let last = serve_steps(chunk, run, p.history, nodes, versions, board, out);
-            p = place_after(chunk, last, p.history);
+            p = whole_line(chunk, last.from, p.history, last.filled);
         } else {
             let turn = take_turn(p.line, p.history, nodes, versions, board);
             p = go_on(turn, p, chunk, out);

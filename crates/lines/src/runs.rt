@@ -53,7 +53,10 @@ fn pass_step(
     let from = step.end + 1;
     Run {
         from,
-        step: short_step(chunk, from),
+        step: short_step(&chunk[from..]).map(|found| Step {
+            end: from + found.end,
+            ..found
+        }),
         filled,
     }
 }

@@ -18,8 +18,8 @@ loop-p-preserved-then-is_some c =
     let served = c.serve_steps-last.ensures in
     let begins = run_begins c.args.begun chunk start c.args.out.now p (watch p.history c.loop-p.nodes c.loop-p.versions c.loop-p.board) c.loop-p.out kept.0 in
     let ran = subst (λ (r : Run). Ran c.args.begun chunk start c.args.out.now r (watch p.history c.loop-p.nodes c.loop-p.versions c.loop-p.board) c.loop-p.out) (sym c.first_run-run.ensures) begins in (
-      runs_behind c.args.begun chunk start c.args.out.now p.history last c.place_after-p.result after.nodes after.versions after.board after.out
-          (served.3 c.args.begun start c.args.out.now ran) served.0 (omega (arith, served.2 (search rules))) c.place_after-p.ensures,
+      runs_behind c.args.begun chunk start c.args.out.now p.history last c.whole_line-p.result after.nodes after.versions after.board after.out
+          (served.3 c.args.begun start c.args.out.now ran) served.0 (omega (arith, served.2 (search rules))) c.whole_line-p.ensures,
       omega (arith, kept.1, c.serve_steps-last.auto.nodes),
       omega (arith, kept.2, c.serve_steps-last.auto.versions),
       omega (arith, kept.3, c.serve_steps-last.auto.out),
