@@ -1,7 +1,7 @@
 // A chunk of the input: its lines are served where they lie, and the line that is begun at its end is kept.
 // The lines are served in a loop to which the board is lent, so that it is not copied line by line.
 ghost use Rattle.std.specs.Prelude.{◌≡◌, ◌*◌, ◌≤◌, length, take};
-ghost use Rattle.lines.specs.Watch.{watch, Roomy};
+ghost use Rattle.lines.specs.Watch.{watch};
 ghost use Rattle.lines.specs.Chunks.{watched, came, serve_of, finish_of};
 ghost use Rattle.lines.specs.Replies.{widest};
 ghost use Rattle.lines.specs.Places.{Closes};
@@ -20,12 +20,12 @@ fn serve_lines(
     chunk: &[u8],
     begun: Begun,
     history: History,
-    nodes: &mut [u64],
-    versions: &mut [u64],
+    nodes: &mut [u64; NODE_TABLE],
+    versions: &mut [u64; VERSION_TABLE],
     board: &mut [Worker],
     out: &mut [u8],
 ) -> Place
-    requires { Roomy nodes.old versions.old × (widest * length chunk.now ≤ length out.old) }
+    requires { widest * length chunk.now ≤ length out.old }
     ensures { Closes begun chunk.now (watch history nodes.old versions.old board.old) out.old result
         (watch result.history nodes.new versions.new board.new) out.new }
 {
@@ -46,11 +46,11 @@ fn serve_lines(
 fn serve_bytes(
     chunk: &[u8],
     kept: Kept,
-    nodes: &mut [u64],
-    versions: &mut [u64],
+    nodes: &mut [u64; NODE_TABLE],
+    versions: &mut [u64; VERSION_TABLE],
     out: &mut [u8],
 ) -> Served
-    requires { Roomy nodes.old versions.old × (widest * length chunk.now ≤ length out.old) }
+    requires { widest * length chunk.now ≤ length out.old }
     ensures { came result nodes.new versions.new out.new ≡ serve_of kept.begun (watched kept nodes.old versions.old) out.old chunk.now }
 {
     let mut board = kept.board;

@@ -2,14 +2,14 @@
 // What a step needs to know of the history is looked up once for all of them.
 ghost use Rattle.std.specs.Prelude.{◌≡◌, true, IsSome, List, ℕ, ◌+◌, ◌*◌, ◌≤◌, ◌<◌, length};
 ghost use Rattle.lines.specs.declared.Begun.{Begun};
-ghost use Rattle.lines.specs.Watch.{Watch, watch, opened, Roomy};
+ghost use Rattle.lines.specs.Watch.{Watch, watch, opened};
 ghost use Rattle.lines.specs.Replies.{widest};
 ghost use Rattle.lines.specs.Places.{step_of_line, run_of, Passes, Steady, Ran};
 
 use crate::histories::{is_open, words};
 use crate::short::short_step;
 use crate::text::put_progress;
-use crate::{History, Place, Run, Step};
+use crate::{History, NODE_TABLE, Place, Run, Step, VERSION_TABLE};
 use grammar::Command;
 use trie::{Progress, Refusal, Worker};
 
@@ -66,12 +66,12 @@ pub(crate) fn serve_steps(
     chunk: &[u8],
     first: Run,
     h: History,
-    nodes: &mut [u64],
-    versions: &mut [u64],
+    nodes: &mut [u64; NODE_TABLE],
+    versions: &mut [u64; VERSION_TABLE],
     board: &mut [Worker],
     out: &mut [u8],
 ) -> Run
-    requires { Roomy nodes.old versions.old × (widest * length chunk.now ≤ length out.old) × (opened h ≡ true) × Steady chunk.now first }
+    requires { (widest * length chunk.now ≤ length out.old) × (opened h ≡ true) × Steady chunk.now first }
     ensures { Steady chunk.now result × (result.step ≡ None) × (IsSome first.step → first.from < result.from)
         × ((begun : Begun) (s₀ : Watch) (out₀ : List ℕ)
         → Ran begun chunk.now s₀ out₀ first (watch h nodes.old versions.old board.old) out.old

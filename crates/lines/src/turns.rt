@@ -2,12 +2,12 @@
 // The board and the tables are lent on; of the version table exactly the words of V versions.
 ghost use Rattle.std.specs.Prelude.{◌≡◌, false};
 ghost use Rattle.lines.specs.declared.History.{History};
-ghost use Rattle.lines.specs.Watch.{watch, Roomy};
+ghost use Rattle.lines.specs.Watch.{watch};
 ghost use Rattle.lines.specs.Turns.{turned, start_line, open_line, line_turn};
 ghost use Rattle.lines.specs.Calling.{stepping};
 
 use crate::histories::{is_open, words};
-use crate::{History, LISTED_CELLS};
+use crate::{History, LISTED_CELLS, NODE_TABLE, VERSION_TABLE};
 use grammar::Command;
 use trie::{Operation, Refusal, Worker};
 
@@ -17,11 +17,10 @@ fn start_turn(
     worker: u64,
     operation: Operation,
     h: History,
-    nodes: &[u64],
-    versions: &[u64],
+    nodes: &[u64; NODE_TABLE],
+    versions: &[u64; VERSION_TABLE],
     board: &mut [Worker],
 ) -> Result<History, Refusal>
-    requires { Roomy nodes.now versions.now }
     ensures { turned result h nodes.now versions.now board.new ≡ start_line worker operation (watch h nodes.now versions.now board.old) }
 {
     if !is_open(h) {
@@ -44,11 +43,10 @@ fn start_turn(
 #[tactic(auto, unfolding(crate::specs::Turns::open_line, grammar::specs::Text::accepted_text))]
 fn open_turn(
     asked: History,
-    nodes: &mut [u64],
-    versions: &mut [u64],
+    nodes: &mut [u64; NODE_TABLE],
+    versions: &mut [u64; VERSION_TABLE],
     board: &mut [Worker],
 ) -> Result<History, Refusal>
-    requires { Roomy nodes.old versions.old }
     ensures { (h : History) → turned result h nodes.new versions.new board.new ≡ open_line asked.cells asked.workers asked.versions (watch h nodes.old versions.old board.old) }
 {
     if LISTED_CELLS < asked.cells {
@@ -71,11 +69,11 @@ fn open_turn(
 pub(crate) fn take_turn(
     line: Option<Command>,
     h: History,
-    nodes: &mut [u64],
-    versions: &mut [u64],
+    nodes: &mut [u64; NODE_TABLE],
+    versions: &mut [u64; VERSION_TABLE],
     board: &mut [Worker],
 ) -> Result<History, Refusal>
-    requires { Roomy nodes.old versions.old × (stepping line h ≡ false) }
+    requires { stepping line h ≡ false }
     ensures { turned result h nodes.new versions.new board.new ≡ line_turn line (watch h nodes.old versions.old board.old) }
 {
     let Some(command) = line else {

@@ -10,4 +10,4 @@ returns c =
     let p = c.serve_lines-p.result in
     let after = c.serve_lines-p.new in
     closes_all c.args.kept.begun (watch c.args.kept.history c.args.nodes.now c.args.versions.now c.args.kept.board) c.args.out.now c.args.chunk.now p (watch p.history after.nodes after.versions after.board) after.out c.close.result
-    c.serve_lines-p.ensures (omega (arith, c.requires.1, c.serve_lines-p.auto.out)) c.close.ensures
+    c.serve_lines-p.ensures (omega (arith, c.requires, c.serve_lines-p.auto.out)) c.close.ensures

@@ -20,9 +20,7 @@ loop-p-preserved-then-is_some c =
     let ran = subst (λ (r : Run). Ran c.args.begun chunk start c.args.out.now r (watch p.history c.loop-p.nodes c.loop-p.versions c.loop-p.board) c.loop-p.out) (sym c.first_run-run.ensures) begins in (
       runs_behind c.args.begun chunk start c.args.out.now p.history last c.whole_line-p.result after.nodes after.versions after.board after.out
           (served.3 c.args.begun start c.args.out.now ran) served.0 (omega (arith, served.2 (search rules))) c.whole_line-p.ensures,
-      omega (arith, kept.1, c.serve_steps-last.auto.nodes),
-      omega (arith, kept.2, c.serve_steps-last.auto.versions),
-      omega (arith, kept.3, c.serve_steps-last.auto.out),
+      omega (arith, kept.1, c.serve_steps-last.auto.out),
     )
 
 pub loop-p-preserved : goal.loop-p-preserved
@@ -32,10 +30,8 @@ loop-p-preserved c =
     let start = watch c.args.history c.args.nodes.now c.args.versions.now c.args.board.now in
     let after = c.take_turn-turn.new in (
       one_more c.args.begun c.args.chunk.now start c.args.out.now p c.go_on-p.result c.take_turn-turn.result c.loop-p.nodes c.loop-p.versions after.nodes after.versions c.loop-p.out c.go_on-p.new.out
-          c.loop-p.board after.board kept.0 (omega arith) (omega (arith, c.requires.1, kept.3))
+          c.loop-p.board after.board kept.0 (omega arith) (omega (arith, c.requires, kept.1))
           c.take_turn-turn.ensures
           c.go_on-p.ensures,
-      omega (arith, kept.1, c.take_turn-turn.auto.nodes),
-      omega (arith, kept.2, c.take_turn-turn.auto.versions),
-      omega (arith, kept.3, c.go_on-p.auto.out),
+      omega (arith, kept.1, c.go_on-p.auto.out),
     )
