@@ -19,7 +19,7 @@ use Rattle.grammar.specs.Grammar.{longest, line_of}
 use Rattle.trie.specs.Choice.{pick}
 use Rattle.lines.specs.declared.Begun.{Begun}
 use Rattle.grammar.specs.Text.{Put}
-use Rattle.lines.specs.Watch.{Watch}
+use Rattle.lines.specs.declared.Watch.{Watch}
 use Rattle.lines.specs.Turns.{Answered, line_turn}
 use Rattle.lines.specs.Chunks.{Part, upto, over, more, line_at, listing, ended, served_of, zeros, part_of, begun_of}
 use Rattle.lines.specs.Feeding.{plain, grown, between, Ends}

@@ -12,7 +12,7 @@ use lib.Seq.{length-take-le, take_all}
 use Rattle.trie.specs.Choice.{pick}
 use Rattle.lines.specs.declared.Begun.{Begun}
 use Rattle.lines.specs.declared.Place.{Place}
-use Rattle.lines.specs.Watch.{Watch}
+use Rattle.lines.specs.declared.Watch.{Watch}
 use Rattle.grammar.specs.Grammar.{longest}
 use Rattle.lines.specs.Chunks.{Part, upto, over, Listing, listing, byte_of, served_of, zeros, part_of, begun_of, Outcome, outcome, serve_of, finish_of}
 use Rattle.lines.specs.Replies.{widest}

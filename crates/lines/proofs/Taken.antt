@@ -24,7 +24,8 @@ use Rattle.trie.specs.Opening.{open_nodes, open_versions, open_board}
 use Rattle.trie.specs.Calls.{State, state, After, after, check, manned, open_of, start_of, step_of}
 use Rattle.lines.specs.declared.History.{History}
 use Rattle.grammar.specs.Text.{accepted_text, course_text}
-use Rattle.lines.specs.Watch.{Watch, watch, most_versions, opened, lent, returned, most_cells}
+use Rattle.lines.specs.declared.Watch.{Watch}
+use Rattle.lines.specs.Watch.{watch, most_versions, opened, lent, returned, most_cells}
 use Rattle.lines.specs.Turns.{Answered, answered, refuses, opens, room, open_line, start_line, step_line, line_turn}
 use Rattle.lines.specs.Calling.{words_of}
 

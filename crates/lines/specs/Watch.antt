@@ -6,12 +6,7 @@ use Rattle.trie.specs.Size.{allowed, most_workers}
 use Rattle.trie.specs.Tables.{width}
 use Rattle.trie.specs.Calls.{State, state}
 use Rattle.lines.specs.declared.History.{History}
-
-pub record Watch : Type 0 where
-  pub history : History
-  pub nodes : List ℕ
-  pub versions : List ℕ
-  pub board : List Worker
+use Rattle.lines.specs.declared.Watch.{Watch}
 
 abbrev pub watch : History → List ℕ → List ℕ → List Worker → Watch
 watch h nodes versions board = record { history = h; nodes = nodes; versions = versions; board = board }

@@ -12,26 +12,21 @@ loop-p-preserved-then-is_some c =
     let kept = c.loop-p.invariant in
     let p = c.loop-p.p in
     let chunk = c.args.chunk.now in
-    let start = watch c.args.history c.args.nodes.now c.args.versions.now c.args.board.now in
-    let last = c.serve_steps-last.result in
-    let after = c.serve_steps-last.new in
+    let start = c.args.watch.now in
+    let out = c.args.out.now in
     let served = c.serve_steps-last.ensures in
-    let begins = run_begins c.args.begun chunk start c.args.out.now p (watch p.history c.loop-p.nodes c.loop-p.versions c.loop-p.board) c.loop-p.out kept.0 in
-    let ran = subst (λ (r : Run). Ran c.args.begun chunk start c.args.out.now r (watch p.history c.loop-p.nodes c.loop-p.versions c.loop-p.board) c.loop-p.out) (sym c.first_run-run.ensures) begins in (
-      runs_behind c.args.begun chunk start c.args.out.now p.history last c.whole_line-p.result after.nodes after.versions after.board after.out
-          (served.3 c.args.begun start c.args.out.now ran) served.0 (omega (arith, served.2 (search rules))) c.whole_line-p.ensures,
+    let after = c.serve_steps-last.new in
+    let begins = run_begins c.args.begun chunk start out p c.loop-p.watch c.loop-p.out kept.0 in
+    let ran = subst (λ (r : Run). Ran c.args.begun chunk start out r c.loop-p.watch c.loop-p.out) (sym c.first_run-run.ensures) begins in (
+      runs_behind c.args.begun chunk start out c.serve_steps-last.result c.whole_line-p.result (watch c.loop-p.watch.history after.nodes after.versions after.board) after.out
+          (served.3 c.args.begun start out ran) served.0 (omega (arith, served.2 (search rules))) c.whole_line-p.ensures,
       omega (arith, kept.1, c.serve_steps-last.auto.out),
     )
 
 pub loop-p-preserved : goal.loop-p-preserved
 loop-p-preserved c =
-    let kept = c.loop-p.invariant in
-    let p = c.loop-p.p in
-    let start = watch c.args.history c.args.nodes.now c.args.versions.now c.args.board.now in
-    let after = c.take_turn-turn.new in (
-      one_more c.args.begun c.args.chunk.now start c.args.out.now p c.go_on-p.result c.take_turn-turn.result c.loop-p.nodes c.loop-p.versions after.nodes after.versions c.loop-p.out c.go_on-p.new.out
-          c.loop-p.board after.board kept.0 (omega arith) (omega (arith, c.requires, kept.1))
-          c.take_turn-turn.ensures
-          c.go_on-p.ensures,
+    let kept = c.loop-p.invariant in (
+      one_more c.args.begun c.args.chunk.now c.args.watch.now c.args.out.now c.loop-p.p c.go_on-p.result c.take_turn-turn.result c.loop-p.watch c.take_turn-turn.new.watch c.loop-p.out c.go_on-p.new.out
+          kept.0 (omega arith) (omega (arith, c.requires, kept.1)) c.take_turn-turn.ensures c.go_on-p.ensures,
       omega (arith, kept.1, c.go_on-p.auto.out),
     )

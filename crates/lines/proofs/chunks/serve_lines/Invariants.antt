@@ -1,13 +1,11 @@
 -- What the loop of `serve_lines` keeps: the lines before the place are served, and the buffer is as long as it was.
 -- Each turn goes on behind a line, so the loop ends.
 use Rattle.std.proofs.Common.{◌≡◌, ◌-◌, length}
-use Rattle.lines.specs.Watch.{watch}
 use Rattle.lines.specs.Places.{Runs}
 use Rattle.lines.proofs.chunks.serve_lines.Given as goal
 
 abbrev pub invariant-loop-p : goal.invariant-loop-p
-invariant-loop-p l = Runs l.fn.begun l.chunk (watch l.fn.history l.initial.nodes l.initial.versions l.initial.board) l.initial.out l.p (watch l.p.history l.nodes l.versions l.board) l.out
-    × (length l.out ≡ length l.initial.out)
+invariant-loop-p l = Runs l.fn.begun l.chunk l.initial.watch l.initial.out l.p l.watch l.out × (length l.out ≡ length l.initial.out)
 
 abbrev pub decreases-loop-p : goal.decreases-loop-p
 decreases-loop-p l = length l.chunk - l.p.from

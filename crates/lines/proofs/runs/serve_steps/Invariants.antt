@@ -2,7 +2,8 @@
 -- what was served before it is served still; and the buffer is as long as it was. Each step goes on behind its line, so the loop ends.
 use Rattle.std.proofs.Common.{◌≡◌, ◌-◌, ◌≤◌, ◌<◌, List, ℕ, None, IsSome, length}
 use Rattle.lines.specs.declared.Begun.{Begun}
-use Rattle.lines.specs.Watch.{Watch, watch}
+use Rattle.lines.specs.declared.Watch.{Watch}
+use Rattle.lines.specs.Watch.{watch}
 use Rattle.lines.specs.Places.{Steady, Ran}
 use Rattle.lines.proofs.runs.serve_steps.Given as goal
 
