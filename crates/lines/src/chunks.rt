@@ -49,6 +49,7 @@ impl Kept {
     }
 
     // Serves the first n bytes of a chunk, or all where it has no more; answers where the text of the answers ends.
+    // A count stands beside the chunk, as `read` answers one, since a slice might have more bytes than the buffer has room for answers.
     pub fn serve(&mut self, chunk: &[u8; CHUNK], n: usize, out: &mut [u8; ANSWERS]) -> usize
         ensures { came self.new out.new result ≡ serve_of self.old.begun self.old.watch out.old (take n chunk.now) }
     {

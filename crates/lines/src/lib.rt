@@ -49,6 +49,7 @@ pub struct Begun {
 }
 
 // The line that is next, where it begins and ends, and where the text of the answers ends.
+// A length stands here and below beside the buffer of the answers, since it is fixed memory that a caller lends, and no `String` that grows.
 #[derive(Clone, Copy)]
 pub struct Place {
     pub line: Option<Command>,
