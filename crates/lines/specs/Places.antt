@@ -56,11 +56,6 @@ pub record Runs (begun : Begun) (chunk : List ℕ) (s₀ : Watch) (out₀ : List
   pub same : served_of (listing (before begun p.from) s (take p.filled out)) (drop p.from chunk) ≡ served_of (listing (part_of begun) s₀ []) chunk
   pub behind : drop p.filled out ≡ drop p.filled out₀
 
--- and the line at the place does not end in the chunk
-pub record Closes (begun : Begun) (chunk : List ℕ) (s₀ : Watch) (out₀ : List ℕ) (p : Place) (s : Watch) (out : List ℕ) : Type 0 where
-  pub runs : Runs begun chunk s₀ out₀ p s out
-  pub all : length chunk ≤ p.end
-
 -- ---- runs of steps
 
 -- the step that a line with this end is, where it steps the history under way

@@ -3,47 +3,39 @@
 ghost use Rattle.std.specs.Prelude.{◌≡◌, ◌*◌, ◌≤◌, length, take};
 ghost use Rattle.lines.specs.Chunks.{came, serve_of, finish_of};
 ghost use Rattle.lines.specs.Replies.{widest};
-ghost use Rattle.lines.specs.Places.{Closes};
 
 use crate::keeping::close;
 use crate::places::{first_place, go_on, whole_line};
 use crate::runs::{first_run, serve_steps};
 use crate::turns::take_turn;
-use crate::{ANSWERS, BLANK, Begun, CHUNK, Kept, Place, Watch};
-
-// Serves the lines that end in the chunk.
-fn serve_lines(chunk: &[u8], begun: Begun, watch: &mut Watch, out: &mut [u8]) -> Place
-    requires { widest * length chunk.now ≤ length out.old }
-    ensures { Closes begun chunk.now watch.old out.old result watch.new out.new }
-{
-    let mut p = first_place(begun, chunk);
-    while p.end < chunk.len() {
-        let run = first_run(p, watch.history);
-        if run.step.is_some() {
-            let last = serve_steps(
-                chunk,
-                run,
-                watch.history,
-                &mut watch.nodes,
-                &mut watch.versions,
-                &mut watch.board,
-                out,
-            );
-            p = whole_line(chunk, last.from, last.filled);
-        } else {
-            let turn = take_turn(p.line, watch);
-            p = go_on(turn, p, chunk, out);
-        }
-    }
-    p
-}
+use crate::{ANSWERS, BLANK, Begun, CHUNK, Kept};
 
 impl Kept {
+    // Serves the lines that end in the chunk, and keeps the line that is begun at its end.
     fn serve_bytes(&mut self, chunk: &[u8], out: &mut [u8]) -> usize
         requires { widest * length chunk.now ≤ length out.old }
         ensures { came self.new out.new result ≡ serve_of self.old.begun self.old.watch out.old chunk.now }
     {
-        let p = serve_lines(chunk, self.begun, &mut self.watch, out);
+        let watch = &mut self.watch;
+        let mut p = first_place(self.begun, chunk);
+        while p.end < chunk.len() {
+            let run = first_run(p, watch.history);
+            if run.step.is_some() {
+                let last = serve_steps(
+                    chunk,
+                    run,
+                    watch.history,
+                    &mut watch.nodes,
+                    &mut watch.versions,
+                    &mut watch.board,
+                    out,
+                );
+                p = whole_line(chunk, last.from, last.filled);
+            } else {
+                let turn = take_turn(p.line, watch);
+                p = go_on(turn, p, chunk, out);
+            }
+        }
         self.begun = close(p, self.begun, chunk);
         p.filled
     }
