@@ -10,7 +10,7 @@ use lib.Dec.{eqb, ltb}
 use lib.ListN.{length, length-append}
 use Rattle.trie.specs.Choice.{pick}
 use Rattle.lines.specs.declared.Begun.{Begun}
-use Rattle.lines.specs.Watch.{Watch}
+use Rattle.lines.specs.declared.Watch.{Watch}
 use Rattle.lines.specs.Turns.{Answered, line_turn}
 use Rattle.grammar.specs.Grammar.{longest}
 use Rattle.lines.specs.Chunks.{Part, upto, over, more, line_at, Listing, listing, ended, byte_of, served_of, part_of, serve_of}

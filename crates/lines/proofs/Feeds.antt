@@ -7,9 +7,10 @@ use Prim.Native.Nat.{ℕ, zero, suc, ◌+◌, ◌-◌, ◌≤◌, ◌<◌}
 use native.Mathlib.Omega.{arith}
 use borrow.Author.Tests.{eq-eqb, eqb-true, lt-ltb, le-leb, lt-leb, leb-true, leb-false, ltb-true, ltb-false}
 use lib.Dec.{eqb, ltb, leb}
-use lib.ListN.{length, take, drop, get_or, length-append, take-append-drop, drop_of_length-le, length-drop, length-take}
-use lib.Seq.{paste, get_or-drop, drop-drop, take-length, take-paste, drop-paste, length-take-le}
-use Rattle.std.specs.Prelude.{Some, None}
+use lib.ListN.{length, take, drop, get_or, length-append, take-append-drop, drop_of_length-le, length-take}
+use lib.Seq.{paste, drop-drop, take-length, take-paste, drop-paste, length-take-le}
+use Rattle.std.specs.Prelude.{Option, Some, None}
+use Rattle.std.specs.Option.{unwrap_or}
 use Rattle.std.specs.List.{position, position_or_len}
 use Rattle.std.proofs.lemmas.List.Quantifiers.{position-Some}
 use Rattle.std.proofs.lemmas.List.Sums.{fails_before_first}
@@ -18,7 +19,7 @@ use Rattle.grammar.specs.Grammar.{longest, line_of}
 use Rattle.trie.specs.Choice.{pick}
 use Rattle.lines.specs.declared.Begun.{Begun}
 use Rattle.grammar.specs.Text.{Put}
-use Rattle.lines.specs.Watch.{Watch}
+use Rattle.lines.specs.declared.Watch.{Watch}
 use Rattle.lines.specs.Turns.{Answered, line_turn}
 use Rattle.lines.specs.Chunks.{Part, upto, over, more, line_at, listing, ended, served_of, zeros, part_of, begun_of}
 use Rattle.lines.specs.Feeding.{plain, grown, between, Ends}
@@ -42,36 +43,39 @@ plain_take (suc n) (x ∷ xs) h l = plain_one (eqb x 10) (plain (take n xs)) (h 
 abbrev newline : ℕ → Bool
 newline b = eqb b 10
 
-module _ (chunk : List ℕ) (from : ℕ) (h : from ≤ length chunk) where
-  abbrev rest : List ℕ
-  rest = drop from chunk
+minus_zero : (n : ℕ) → n - 0 ≡ n
+minus_zero n = omega arith
 
-  front_plain : (n e : ℕ) → e ≡ from + n → n ≤ length rest → ((k : ℕ) → k < n → newline (get_or rest k 0) ≡ false) → plain (between chunk from e) ≡ true
-  front_plain n e q l f = let m : e - from ≡ n = omega (arith, q) in ap (λ (k : ℕ). plain (take k rest)) m ∙ plain_take n rest f l
+ends_first : (bytes : List ℕ) (n : ℕ) → position newline bytes ≡ Some n → Ends bytes 0 n
+ends_first bytes n q =
+    let p = position-Some newline bytes n 0 q in
+    record {
+      onward = omega arith;
+      within = omega (arith, p.0);
+      bytes = ap (λ (k : ℕ). plain (take k bytes)) (minus_zero n) ∙ plain_take n bytes p.2 (omega (arith, p.0));
+      newline = λ _. eqb-true _ 10 p.1;
+    }
 
-  pub ends_first : (n : ℕ) → position newline rest ≡ Some n → Ends chunk from (from + n)
-  ends_first n q =
-      let p = position-Some newline rest n 0 q in
-      record {
-        onward = omega arith;
-        within = omega (arith, p.0, length-drop from chunk);
-        bytes = front_plain n (from + n) refl (omega (arith, p.0)) p.2;
-        newline = λ _. sym (get_or-drop from chunk n 0) ∙ eqb-true _ 10 p.1;
-      }
+ends_none : (bytes : List ℕ) → position newline bytes ≡ None → Ends bytes 0 (length bytes)
+ends_none bytes q =
+    let none : length bytes ≤ position_or_len newline bytes = by (ltb (position_or_len newline bytes) (length bytes)) refl q in
+    record {
+      onward = omega arith;
+      within = omega arith;
+      bytes = ap (λ (k : ℕ). plain (take k bytes)) (minus_zero (length bytes)) ∙ plain_take (length bytes) bytes (λ k l. fails_before_first newline bytes k 0 (omega (arith, l, none))) (omega arith);
+      newline = λ l. absurd (omega (arith, l));
+    }
+  where
+    by : (t : Bool) → ltb (position_or_len newline bytes) (length bytes) ≡ t → cond t (Some (position_or_len newline bytes)) None ≡ None → length bytes ≤ position_or_len newline bytes
+    by true e f = absurd cc
+    by false e f = ltb-false _ _ e
 
-  pub ends_none : position newline rest ≡ None → Ends chunk from (length chunk)
-  ends_none q =
-      let none : length rest ≤ position_or_len newline rest = by (ltb (position_or_len newline rest) (length rest)) refl q in
-      record {
-        onward = h;
-        within = omega arith;
-        bytes = front_plain (length rest) (length chunk) (omega (arith, length-drop from chunk, h)) (omega arith) (λ k l. fails_before_first newline rest k 0 (omega (arith, l, none)));
-        newline = λ l. absurd (omega (arith, l));
-      }
-    where
-      by : (t : Bool) → ltb (position_or_len newline rest) (length rest) ≡ t → cond t (Some (position_or_len newline rest)) None ≡ None → length rest ≤ position_or_len newline rest
-      by true e f = absurd cc
-      by false e f = ltb-false _ _ e
+pub ends_line : (bytes : List ℕ) → Ends bytes 0 (unwrap_or (position newline bytes) (length bytes))
+ends_line bytes = by (position newline bytes) refl
+  where
+    by : (o : Option ℕ) → position newline bytes ≡ o → Ends bytes 0 (unwrap_or o (length bytes))
+    by (Some n) e = ends_first bytes n e
+    by None e = ends_none bytes e
 
 -- ---- a line grows
 

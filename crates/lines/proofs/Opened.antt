@@ -16,7 +16,8 @@ use Rattle.trie.specs.Tables.{width, roomy}
 use Rattle.trie.proofs.TableLaws.{room_length, roomy_versions}
 use Rattle.trie.specs.Values.{Ok}
 use Rattle.trie.specs.Calls.{State, After, check, manned, open_of}
-use Rattle.lines.specs.Watch.{Watch, history, most_cells, most_versions, opened, lent}
+use Rattle.lines.specs.declared.Watch.{Watch}
+use Rattle.lines.specs.Watch.{history, most_cells, most_versions, opened, lent}
 use Rattle.lines.specs.Turns.{room}
 
 refused_gives : {A : Type 0} (k : ℕ) (a : A) → refused k ≡ gives a → ⊥

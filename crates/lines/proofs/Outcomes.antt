@@ -12,12 +12,12 @@ use lib.Seq.{length-take-le, take_all}
 use Rattle.trie.specs.Choice.{pick}
 use Rattle.lines.specs.declared.Begun.{Begun}
 use Rattle.lines.specs.declared.Place.{Place}
-use Rattle.lines.specs.Watch.{Watch}
+use Rattle.lines.specs.declared.Watch.{Watch}
 use Rattle.grammar.specs.Grammar.{longest}
 use Rattle.lines.specs.Chunks.{Part, upto, over, Listing, listing, byte_of, served_of, zeros, part_of, begun_of, Outcome, outcome, serve_of, finish_of}
 use Rattle.lines.specs.Replies.{widest}
 use Rattle.lines.specs.Feeding.{grown, between, before}
-use Rattle.lines.specs.Places.{Closes}
+use Rattle.lines.specs.Places.{Runs}
 use Rattle.lines.proofs.Feeds.{served_rest}
 
 abbrev at_end : Begun → Watch → List ℕ → ℕ → Outcome
@@ -33,15 +33,15 @@ module _ (begun : Begun) (s₀ : Watch) (out₀ chunk : List ℕ) where
       (λ i. at_end (e i) s (o i) (n i)) ∙ ap (λ (l : Listing). outcome l out₀) q
 
   -- the lines that end in the chunk are served, and the line behind them is kept
-  pub closes_all : (p : Place) (s : Watch) (out : List ℕ) (kept : Begun) → Closes begun chunk s₀ out₀ p s out → widest * length chunk ≤ length out
+  pub closes_all : (p : Place) (s : Watch) (out : List ℕ) (kept : Begun) → Runs begun chunk s₀ out₀ p s out → length chunk ≤ p.end → widest * length chunk ≤ length out
       → kept ≡ begun_of (grown (before begun p.from) (drop p.from chunk)) → at_end kept s out p.filled ≡ serve_of begun s₀ out₀ chunk
-  closes_all p s out kept c k q =
-      let h = c.runs.ends in
+  closes_all p s out kept r all k q =
+      let h = r.ends in
       let i = p.from in
-      let n : length (drop i chunk) ≤ p.end - i = omega (arith, length-drop i chunk, c.all) in
+      let n : length (drop i chunk) ≤ p.end - i = omega (arith, length-drop i chunk, all) in
       outcome_is (grown (before begun i) (between chunk i p.end)) s out p.filled kept (q ∙ ap (λ (x : List ℕ). begun_of (grown (before begun i) x)) (sym (take_all (p.end - i) (drop i chunk) n)))
-      (omega (arith, c.runs.room, h.onward, h.within)) c.runs.behind
-      (served_rest chunk i p.end h (before begun i) s (take p.filled out) c.all ∙ c.runs.same)
+      (omega (arith, r.room, h.onward, h.within)) r.behind
+      (served_rest chunk i p.end h (before begun i) s (take p.filled out) all ∙ r.same)
 
 -- ---- the input has ended
 

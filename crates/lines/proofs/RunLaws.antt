@@ -7,22 +7,23 @@ use Prim.Native.Nat.{ℕ, ◌+◌, ◌*◌, ◌≤◌, ◌<◌}
 use native.Mathlib.Omega.{arith}
 use borrow.Author.Tests.{ne_eqb}
 use lib.ListN.{length, take, drop}
-use Rattle.std.specs.Prelude.{Some, None, Option, Result}
+use Rattle.std.specs.Prelude.{Some, None, Option, Result, ⊤}
 use Rattle.grammar.specs.declared.Command.{Command}
 use Rattle.trie.specs.declared.Progress.{Progress}
 use Rattle.trie.specs.declared.Refusal.{Refusal}
 use Rattle.trie.specs.declared.Worker.{Worker}
 use Rattle.trie.specs.Choice.{pick}
-use Rattle.trie.specs.Values.{progress_of}
+use Rattle.trie.specs.Values.{accepted_of, progress_of}
 use Rattle.trie.specs.Calls.{state, after, step_of}
 use Rattle.lines.specs.declared.Begun.{Begun}
 use Rattle.lines.specs.declared.History.{History}
 use Rattle.lines.specs.declared.Place.{Place}
 use Rattle.lines.specs.declared.Run.{Run}
 use Rattle.lines.specs.declared.Step.{Step}
-use Rattle.grammar.specs.Text.{course_text}
-use Rattle.lines.specs.Watch.{Watch, watch, opened}
-use Rattle.lines.specs.Turns.{answered, line_turn, turned}
+use Rattle.grammar.specs.Text.{accepted_text, course_text}
+use Rattle.lines.specs.declared.Watch.{Watch}
+use Rattle.lines.specs.Watch.{watch, opened}
+use Rattle.lines.specs.Turns.{answered, line_turn}
 use Rattle.lines.specs.Calling.{words_of}
 use Rattle.lines.specs.Chunks.{Part, upto, line_at, listing, served_of, part_of}
 use Rattle.lines.specs.Replies.{widest}
@@ -40,13 +41,13 @@ by_open : (t : Bool) (o : Bool) (s u : Step) → o ≡ t → pick t (Some s) Non
 by_open true o s u q e = (q, cc)
 by_open false o s u q e = absurd cc
 
-pub steps_opened : (l : Option Command) (p : Place) (s : Step) → step_of_line l p ≡ Some s → (opened p.history ≡ true) × (s.end ≡ p.end) × (l ≡ Some (Command.Step s.worker))
-steps_opened (Some (Command.Step i)) p s e =
-    let o = by_open (opened p.history) (opened p.history) (record { worker = i; end = p.end }) s refl e in
+pub steps_opened : (l : Option Command) (end : ℕ) (h : History) (s : Step) → step_of_line l end h ≡ Some s → (opened h ≡ true) × (s.end ≡ end) × (l ≡ Some (Command.Step s.worker))
+steps_opened (Some (Command.Step i)) end h s e =
+    let o = by_open (opened h) (opened h) (record { worker = i; end = end }) s refl e in
     (o.0, ap (λ (x : Step). x.end) (sym o.1), ap (λ (x : Step). Some (Command.Step x.worker)) o.1)
-steps_opened (Some (Command.Start i o)) p s e = absurd cc
-steps_opened (Some (Command.Open n w v)) p s e = absurd cc
-steps_opened None p s e = absurd cc
+steps_opened (Some (Command.Start i o)) end h s e = absurd cc
+steps_opened (Some (Command.Open n w v)) end h s e = absurd cc
+steps_opened None end h s e = absurd cc
 
 -- a run goes on behind a step
 pub steady_on : (chunk out out' : List ℕ) (progress : Result Progress Refusal) (r q : Run) (s : Step) → Steady chunk r → r.step ≡ Some s → Passes progress s r.filled chunk out out' q → Steady chunk q
@@ -62,17 +63,14 @@ steady_on chunk out out' progress r q s steady is g =
 module _ (begun : Begun) (chunk : List ℕ) where
   module _ (s₀ : Watch) (out₀ : List ℕ) where
     -- a turn, its answer written, and the next place
-    pub one_more : (p r : Place) (turn : Result History Refusal) (nodes versions nodes' versions' out out' : List ℕ) (board board' : List Worker)
-        → Runs begun chunk s₀ out₀ p (watch p.history nodes versions board) out → p.end < length chunk → widest * length chunk ≤ length out
-        → turned turn p.history nodes' versions' board' ≡ line_turn p.line (watch p.history nodes versions board) → Goes turn p chunk out out' r
-        → Runs begun chunk s₀ out₀ r (watch r.history nodes' versions' board') out'
-    one_more p r turn nodes versions nodes' versions' out out' board board' q l k a g =
+    pub one_more : (p r : Place) (turn : Result ⊤ Refusal) (s s' : Watch) (out out' : List ℕ) → Runs begun chunk s₀ out₀ p s out → p.end < length chunk → widest * length chunk ≤ length out
+        → answered (accepted_text (accepted_of turn)) s' ≡ line_turn p.line s → Goes turn p chunk out out' r → Runs begun chunk s₀ out₀ r s' out'
+    one_more p r turn s s' out out' q l k a g =
         let e = p.end in
-        let s = watch p.history nodes versions board in
         let f : p.filled ≤ length out = omega (arith, q.room, q.ends.onward) in
         let z = g.placed.begins in
         let b : upto [] ≡ before begun r.from = sym (before_later begun r.from (omega (arith, z))) in
-        let goes = line_answered chunk p.from e q.ends l (before begun p.from) s (turned turn p.history nodes' versions' board') out out' p.filled r.filled f
+        let goes = line_answered chunk p.from e q.ends l (before begun p.from) s (answered (accepted_text (accepted_of turn)) s') out out' p.filled r.filled f
         (a ∙ ap (λ (x : Option Command). line_turn x s) q.line) g.put in
         record {
           ends = subst (λ (i : ℕ). Ends chunk i r.end) (sym z) g.placed.ends;
@@ -80,16 +78,16 @@ module _ (begun : Begun) (chunk : List ℕ) where
               g.placed.line ∙ sym (line_whole (between chunk (e + 1) r.end))
               ∙ (λ t. line_at (grown (b t) (between chunk (sym z t) r.end)));
           room = omega (arith, q.room, q.ends.onward, g.most, z);
-          same = (λ t. served_of (listing (sym b t) (watch (g.placed.history t) nodes' versions' board') (take r.filled out')) (drop (z t) chunk)) ∙ goes ∙ q.same;
+          same = (λ t. served_of (listing (sym b t) s' (take r.filled out')) (drop (z t) chunk)) ∙ goes ∙ q.same;
           behind = put_drop _ out out' out₀ p.filled r.filled f g.put q.behind;
         }
 
     -- the line at a place begins a run
-    pub run_begins : (p : Place) (s : Watch) (out : List ℕ) → Runs begun chunk s₀ out₀ p s out → Ran begun chunk s₀ out₀ (run_of p) s out
+    pub run_begins : (p : Place) (s : Watch) (out : List ℕ) → Runs begun chunk s₀ out₀ p s out → Ran begun chunk s₀ out₀ (run_of p s.history) s out
     run_begins p s out q =
         record {
           step = λ t e.
-              let o = steps_opened p.line p t e in (
+              let o = steps_opened p.line p.end s.history t e in (
                 subst (Ends chunk p.from) (sym o.1) q.ends,
                 ap (λ (k : ℕ). line_at (grown (before begun p.from) (between chunk p.from k))) o.1 ∙ sym q.line ∙ o.2,
               );
@@ -122,9 +120,8 @@ module _ (begun : Begun) (chunk : List ℕ) where
         }
 
     -- the place behind a run
-    pub runs_behind : (h : History) (r : Run) (p : Place) (nodes versions : List ℕ) (board : List Worker) (out : List ℕ) → Ran begun chunk s₀ out₀ r (watch h nodes versions board) out → Steady chunk r → 0 < r.from
-        → Placed chunk r.from h r.filled p → Runs begun chunk s₀ out₀ p (watch p.history nodes versions board) out
-    runs_behind h r p nodes versions board out ran steady later at =
+    pub runs_behind : (r : Run) (p : Place) (s : Watch) (out : List ℕ) → Ran begun chunk s₀ out₀ r s out → Steady chunk r → 0 < r.from → Placed chunk r.from r.filled p → Runs begun chunk s₀ out₀ p s out
+    runs_behind r p s out ran steady later at =
         let z = at.begins in
         let b : upto [] ≡ before begun r.from = sym (before_later begun r.from later) in
         record {
@@ -133,6 +130,6 @@ module _ (begun : Begun) (chunk : List ℕ) where
               at.line ∙ sym (line_whole (between chunk r.from p.end))
               ∙ (λ t. line_at (grown (b t) (between chunk r.from p.end))) ∙ (λ t. line_at (grown (before begun (sym z t)) (between chunk (sym z t) p.end)));
           room = omega (arith, steady.room, at.filled, z);
-          same = (λ t. served_of (listing (before begun (z t)) (watch (at.history t) nodes versions board) (take (at.filled t) out)) (drop (z t) chunk)) ∙ ran.same;
+          same = (λ t. served_of (listing (before begun (z t)) s (take (at.filled t) out)) (drop (z t) chunk)) ∙ ran.same;
           behind = (λ t. drop (at.filled t) out) ∙ ran.behind ∙ (λ t. drop (sym at.filled t) out₀);
         }

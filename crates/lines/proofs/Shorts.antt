@@ -7,8 +7,7 @@ use Prim.Native.Nat.{ℕ, ◌+◌, ◌*◌, ◌-◌, ◌≤◌}
 use native.Mathlib.Omega.{arith}
 use borrow.Author.Tests.{ne_eqb, le-leb, leb-true}
 use lib.Dec.{leb}
-use lib.ListN.{length, take, drop, get_or, length-drop}
-use lib.Seq.{get_or-drop}
+use lib.ListN.{length, take, drop, get_or}
 use Rattle.std.specs.Prelude.{Some, None}
 use Rattle.grammar.specs.declared.Command.{Command}
 use Rattle.grammar.specs.Grammar.{ended, digits, number_of, line_of}
@@ -64,60 +63,51 @@ lies x a e = by (leb 48 x && leb x 57) refl e
 
 -- ---- the bytes where they lie
 
-module _ (chunk line : List ℕ) (i : ℕ) (lies_at : line ≡ drop i chunk) (h : i + 8 ≤ length chunk) (named : line ≡ (115 ∷ 116 ∷ 101 ∷ 112 ∷ 32 ∷ []) ++ drop 5 line) where
-  long : 8 ≤ length line
-  long = omega (arith, ap length lies_at, length-drop i chunk)
-
+module _ (line : List ℕ) (long : 8 ≤ length line) (named : line ≡ (115 ∷ 116 ∷ 101 ∷ 112 ∷ 32 ∷ []) ++ drop 5 line) where
   abbrev byte : ℕ → ℕ
   byte k = get_or line k 0
-
-  in_chunk : (k : ℕ) → get_or chunk (i + k) 0 ≡ byte k
-  in_chunk k = sym (ap (λ (l : List ℕ). get_or l k 0) lies_at ∙ get_or-drop i chunk k 0)
-
-  front : (k n : ℕ) → n ≡ i + k → between chunk i n ≡ take k line
-  front k n e = let m : n - i ≡ k = omega (arith, e) in (λ t. take (m t) (sym lies_at t))
 
   letter : (k : ℕ) → byte k ≡ get_or ((115 ∷ 116 ∷ 101 ∷ 112 ∷ 32 ∷ []) ++ drop 5 line) k 0
   letter k = ap (λ (l : List ℕ). get_or l k 0) named
 
   module _ (d : ℕ) (ed : d ≡ byte 5) (lo : 48 ≤ d) (hi : d ≤ 57) where
-    one_bytes : between chunk i (i + 6) ≡ 115 ∷ 116 ∷ 101 ∷ 112 ∷ 32 ∷ d ∷ []
+    one_bytes : between line 0 6 ≡ 115 ∷ 116 ∷ 101 ∷ 112 ∷ 32 ∷ d ∷ []
     one_bytes =
-        front 6 (i + 6) refl ∙ six line (omega (arith, long))
+        six line (omega (arith, long))
         ∙ (λ t. letter 0 t ∷ letter 1 t ∷ letter 2 t ∷ letter 3 t ∷ letter 4 t ∷ sym ed t ∷ [])
 
-    short_one : byte 6 ≡ 10 → Found chunk i (Some (record { worker = d - 48; end = i + 6 }))
+    short_one : byte 6 ≡ 10 → Found line 0 (Some (record { worker = d - 48; end = 6 }))
     short_one e = (
-      record { onward = omega arith; within = omega arith; bytes = ap plain one_bytes ∙ one_plain d lo; newline = λ _. in_chunk 6 ∙ e },
+      record { onward = omega arith; within = omega arith; bytes = ap plain one_bytes ∙ one_plain d lo; newline = λ _. e },
       omega arith,
       ap line_of one_bytes ∙ one_line d lo hi,
     )
 
     module _ (f : ℕ) (ef : f ≡ byte 6) (lo' : 48 ≤ f) (hi' : f ≤ 57) where
-      two_bytes : between chunk i (i + 7) ≡ 115 ∷ 116 ∷ 101 ∷ 112 ∷ 32 ∷ d ∷ f ∷ []
+      two_bytes : between line 0 7 ≡ 115 ∷ 116 ∷ 101 ∷ 112 ∷ 32 ∷ d ∷ f ∷ []
       two_bytes =
-          front 7 (i + 7) refl ∙ seven line (omega (arith, long))
+          seven line (omega (arith, long))
           ∙ (λ t. letter 0 t ∷ letter 1 t ∷ letter 2 t ∷ letter 3 t ∷ letter 4 t ∷ sym ed t ∷ sym ef t ∷ [])
 
-      short_two : byte 7 ≡ 10 → Found chunk i (Some (record { worker = 10 * (d - 48) + (f - 48); end = i + 7 }))
+      short_two : byte 7 ≡ 10 → Found line 0 (Some (record { worker = 10 * (d - 48) + (f - 48); end = 7 }))
       short_two e = (
-        record { onward = omega arith; within = omega arith; bytes = ap plain two_bytes ∙ two_plain d f lo lo'; newline = λ _. in_chunk 7 ∙ e },
+        record { onward = omega arith; within = omega arith; bytes = ap plain two_bytes ∙ two_plain d f lo lo'; newline = λ _. e },
         omega arith,
         ap line_of two_bytes ∙ two_line d f lo hi lo' hi',
       )
 
   -- with one digit or two
-  pub found_one : (tens k n : ℕ) → digit_of (byte 5) ≡ Some tens → k ≡ tens → n ≡ 6 → byte n ≡ 10 → Found chunk i (Some (record { worker = k; end = i + n }))
+  pub found_one : (tens k n : ℕ) → digit_of (byte 5) ≡ Some tens → k ≡ tens → n ≡ 6 → byte n ≡ 10 → Found line 0 (Some (record { worker = k; end = n }))
   found_one tens k n et ek en nl =
       let t = lies (byte 5) tens et in
       let q : k ≡ byte 5 - 48 = omega (arith, ek, t.2) in
-      subst (Found chunk i) (λ j. Some (record { worker = sym q j; end = i + sym en j })) (short_one (byte 5) refl t.0 t.1 (ap byte (sym en) ∙ nl))
+      subst (Found line 0) (λ j. Some (record { worker = sym q j; end = sym en j })) (short_one (byte 5) refl t.0 t.1 (ap byte (sym en) ∙ nl))
 
   pub found_two : (tens ones k n : ℕ) → digit_of (byte 5) ≡ Some tens → digit_of (byte 6) ≡ Some ones → k ≡ 10 * tens + ones → n ≡ 7 → byte n ≡ 10
-      → Found chunk i (Some (record { worker = k; end = i + n }))
+      → Found line 0 (Some (record { worker = k; end = n }))
   found_two tens ones k n et eo ek en nl =
       let t = lies (byte 5) tens et in
       let o = lies (byte 6) ones eo in
       let q : k ≡ 10 * (byte 5 - 48) + (byte 6 - 48) = omega (arith, ek, t.2, o.2) in
-      subst (Found chunk i) (λ j. Some (record { worker = sym q j; end = i + sym en j }))
+      subst (Found line 0) (λ j. Some (record { worker = sym q j; end = sym en j }))
       (short_two (byte 5) refl t.0 t.1 (byte 6) refl o.0 o.1 (ap byte (sym en) ∙ nl))

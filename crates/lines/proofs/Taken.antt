@@ -3,9 +3,8 @@
 use mathlib.Core.Path.{◌≡◌, refl, sym, ap, ◌∙◌}
 use mathlib.Core.Bool.{Bool, true, false, ◌&&◌}
 use mathlib.Core.List.{List, ◌++◌}
-use Prim.Native.Nat.{ℕ, ◌*◌, ◌-◌, ◌≤◌}
+use Prim.Native.Nat.{ℕ, ◌*◌, ◌-◌}
 use native.Mathlib.Omega.{arith}
-use borrow.Author.Tests.{leb-true}
 use lib.Dec.{leb}
 use lib.ListN.{take, drop, take-append-drop}
 use Rattle.std.specs.Prelude.{⊤, Result, Some}
@@ -18,23 +17,17 @@ use Rattle.trie.specs.declared.Worker.{Worker}
 use Rattle.trie.specs.Choice.{pick}
 use Rattle.trie.specs.Size.{allowed, most_workers}
 use Rattle.trie.proofs.SizeLaws.{and_second}
-use Rattle.trie.specs.Tables.{width, roomy}
+use Rattle.trie.specs.Tables.{roomy}
 use Rattle.trie.specs.Refusing.{number_of}
 use Rattle.trie.specs.Values.{Ok, ok, Course, accepted_of, progress_of}
 use Rattle.trie.specs.Opening.{open_nodes, open_versions, open_board}
 use Rattle.trie.specs.Calls.{State, state, After, after, check, manned, open_of, start_of, step_of}
 use Rattle.lines.specs.declared.History.{History}
 use Rattle.grammar.specs.Text.{accepted_text, course_text}
-use Rattle.lines.specs.Watch.{Watch, watch, most_versions, opened, lent, returned, most_cells}
+use Rattle.lines.specs.declared.Watch.{Watch}
+use Rattle.lines.specs.Watch.{watch, most_versions, opened, lent, returned, most_cells}
 use Rattle.lines.specs.Turns.{Answered, answered, refuses, opens, room, open_line, start_line, step_line, line_turn}
 use Rattle.lines.specs.Calling.{words_of}
-
-room_most : (v : ℕ) → room v ≤ most_versions
-room_most v = by (leb v most_versions) refl
-  where
-    by : (t : Bool) → leb v most_versions ≡ t → pick t v 0 ≤ most_versions
-    by true e = leb-true v most_versions e
-    by false e = omega arith
 
 -- where a history is under way its V is not more than there are here
 room_same : (h : History) → opened h ≡ true → room h.versions ≡ h.versions
@@ -45,9 +38,6 @@ room_same h e =
     let f = leb (2 * h.cells - 1) h.versions in
     let g = leb h.versions most_versions in
     ap (λ (t : Bool). pick t h.versions 0) (and_second f g (and_second c (f && g) (and_second a (c && (f && g)) e)))
-
-pub lent_most : (v : ℕ) → words_of v ≤ width * most_versions
-lent_most v = omega (arith, room_most v)
 
 -- the checks of an open, by how they come out
 abbrev checked : ℕ → ℕ → State → Bool → Bool → Bool → After Ok

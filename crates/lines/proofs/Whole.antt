@@ -11,7 +11,7 @@ use Rattle.std.proofs.Common.{Option, None}
 use Rattle.grammar.specs.declared.Command.{Command}
 use Rattle.grammar.specs.Grammar.{longest, line_of}
 use Rattle.trie.specs.Choice.{pick}
-use Rattle.lines.specs.Watch.{Watch}
+use Rattle.lines.specs.declared.Watch.{Watch}
 use Rattle.lines.specs.Turns.{Answered, line_turn}
 use Rattle.lines.specs.Chunks.{Part, upto, over, more, line_at, Listing, listing, ended, byte_of, served_of, part_of, begun_of, outcome, serve_of, finish_of}
 use Rattle.lines.specs.Feeding.{grown}

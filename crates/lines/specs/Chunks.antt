@@ -7,8 +7,7 @@ use Rattle.grammar.specs.Grammar.{longest, line_of}
 use Rattle.trie.specs.Choice.{pick}
 use Rattle.lines.specs.declared.Begun.{Begun}
 use Rattle.lines.specs.declared.Kept.{Kept}
-use Rattle.lines.specs.declared.Served.{Served}
-use Rattle.lines.specs.Watch.{Watch, watch}
+use Rattle.lines.specs.declared.Watch.{Watch}
 use Rattle.lines.specs.Turns.{Answered, line_turn}
 
 -- the line that is begun: its bytes so far, or that they are more than the longest line has
@@ -66,13 +65,9 @@ pub record Outcome : Type 0 where
   pub out : List ℕ
   pub filled : ℕ
 
--- what is kept, with the tables
-abbrev pub watched : Kept → List ℕ → List ℕ → Watch
-watched k nodes versions = watch k.history nodes versions k.board
-
--- what the code answers for a chunk, with the tables and the buffer after it
-abbrev pub came : Served → List ℕ → List ℕ → List ℕ → Outcome
-came r nodes versions out = record { begun = r.kept.begun; watch = watched r.kept nodes versions; out = out; filled = r.filled }
+-- what the code keeps after a chunk, with the buffer and where the text in it ends
+abbrev pub came : Kept → List ℕ → ℕ → Outcome
+came k out filled = record { begun = k.begun; watch = k.watch; out = out; filled = filled }
 
 abbrev pub outcome : Listing → List ℕ → Outcome
 outcome l out = record { begun = begun_of l.part; watch = l.watch; out = l.written ++ drop (length l.written) out; filled = length l.written }

@@ -12,7 +12,8 @@ use Rattle.trie.specs.Values.{Ok, ok, Course}
 use Rattle.trie.specs.Calls.{After, open_of, start_of, step_of}
 use Rattle.lines.specs.declared.History.{History}
 use Rattle.grammar.specs.Text.{refused_text, accepted_text, course_text}
-use Rattle.lines.specs.Watch.{Watch, watch, history, most_cells, most_versions, opened, lent, returned}
+use Rattle.lines.specs.declared.Watch.{Watch}
+use Rattle.lines.specs.Watch.{watch, history, most_cells, most_versions, opened, lent, returned}
 
 pub record Answered : Type 0 where
   pub text : List ℕ
@@ -62,18 +63,18 @@ line_turn (Some (Command.Start i o)) s = start_line i o s
 line_turn (Some (Command.Open n w v)) s = open_line n w v s
 line_turn None s = refuses 10 s
 
--- ---- a turn of the code: the history after it, or its refusal
+-- ---- an open that the code carries out: the history that it begins, or its refusal
 
--- what is told of a turn
+-- what is told of it
 abbrev pub told_by : Result History Refusal → Told Ok
 told_by (Result.Err refusal) = refused (number_of refusal)
 told_by (Result.Ok kept) = gives ok
 
--- the history after a turn, where h was before it
+-- the history after it, where h was before it
 abbrev pub history_by : Result History Refusal → History → History
 history_by (Result.Err refusal) h = h
 history_by (Result.Ok kept) h = kept
 
--- what a turn comes to, with the tables and the board after it
+-- what it comes to, with the tables and the board after it
 abbrev pub turned : Result History Refusal → History → List ℕ → List ℕ → List Worker → Answered
 turned turn h nodes versions board = answered (accepted_text (told_by turn)) (watch (history_by turn h) nodes versions board)

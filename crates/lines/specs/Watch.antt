@@ -1,17 +1,12 @@
 -- What a listing keeps from line to line: N, W and V of the history under way, the tables and the board.
 -- Document 01, "The listing program". Assumes nothing.
-use Rattle.std.specs.Prelude.{Bool, ◌&&◌, List, ◌++◌, ℕ, ◌*◌, ◌-◌, ◌≤◌, leb, length, take, drop}
+use Rattle.std.specs.Prelude.{Bool, ◌&&◌, List, ◌++◌, ℕ, ◌*◌, ◌-◌, leb, take, drop}
 use Rattle.trie.specs.declared.Worker.{Worker}
 use Rattle.trie.specs.Size.{allowed, most_workers}
 use Rattle.trie.specs.Tables.{width}
 use Rattle.trie.specs.Calls.{State, state}
 use Rattle.lines.specs.declared.History.{History}
-
-pub record Watch : Type 0 where
-  pub history : History
-  pub nodes : List ℕ
-  pub versions : List ℕ
-  pub board : List Worker
+use Rattle.lines.specs.declared.Watch.{Watch}
 
 abbrev pub watch : History → List ℕ → List ℕ → List Worker → Watch
 watch h nodes versions board = record { history = h; nodes = nodes; versions = versions; board = board }
@@ -39,8 +34,3 @@ lent v s = state s.nodes (take (width * v) s.versions) s.board
 -- what was lent comes back, and the words of the version table behind it are as they were
 abbrev pub returned : ℕ → State → Watch → Watch
 returned v t s = watch s.history t.nodes (t.versions ++ drop (width * v) s.versions) t.board
-
--- the tables are long enough for every N and V that are accepted here
-pub record Roomy (nodes versions : List ℕ) : Type 0 where
-  pub nodes_long : 2 * most_cells ≤ length nodes
-  pub versions_long : width * most_versions ≤ length versions

@@ -4,7 +4,7 @@ use Rattle.std.specs.Prelude.{List, [], ◌∷◌, ◌++◌, ℕ, eqb, take}
 use Rattle.grammar.specs.Grammar.{line_of}
 use Rattle.trie.specs.Choice.{pick}
 use Rattle.lines.specs.declared.Begun.{Begun}
-use Rattle.lines.specs.Watch.{Watch}
+use Rattle.lines.specs.declared.Watch.{Watch}
 use Rattle.lines.specs.Turns.{line_turn}
 use Rattle.lines.specs.Chunks.{Outcome, serve_of, finish_of}
 

@@ -11,7 +11,6 @@ mod short;
 mod text;
 mod turns;
 
-pub use chunks::{finish, serve};
 use grammar::Command;
 pub use grammar::LONGEST_LINE;
 use trie::{MOST_WORKERS, Phase, Worker};
@@ -49,13 +48,13 @@ pub struct Begun {
     pub held: usize,
 }
 
-// The line that is next, where it begins and ends, the history before it, and where the text of the answers ends.
+// The line that is next, where it begins and ends, and where the text of the answers ends.
+// A length stands here and below beside the buffer of the answers, since it is fixed memory that a caller lends, and no `String` that grows.
 #[derive(Clone, Copy)]
 pub struct Place {
     pub line: Option<Command>,
     pub from: usize,
     pub end: usize,
-    pub history: History,
     pub filled: usize,
 }
 
@@ -75,12 +74,20 @@ pub struct Run {
     pub filled: usize,
 }
 
-// What is kept from one chunk to the next: the line that is begun, the history under way, and the board.
-#[derive(Clone, Copy)]
+// What is kept from one line to the next: the history under way, the tables and the board.
+#[derive(Clone, Drop)]
+pub struct Watch {
+    pub history: History,
+    pub nodes: [u64; NODE_TABLE],
+    pub versions: [u64; VERSION_TABLE],
+    pub board: [Worker; MOST_WORKERS],
+}
+
+// What is kept from one chunk to the next: the line that is begun, and what is kept from line to line.
+#[derive(Clone, Drop)]
 pub struct Kept {
     pub begun: Begun,
-    pub history: History,
-    pub board: [Worker; MOST_WORKERS],
+    pub watch: Watch,
 }
 
 // No line is begun.
@@ -89,20 +96,17 @@ pub(crate) const BLANK: Begun = Begun {
     held: 0,
 };
 
-// What is kept before the first chunk: no line is begun, no history is under way, and every worker is idle.
+// What is kept before the first chunk: no line is begun, no history is under way, the tables are blank, and every worker is idle.
 pub const AT_START: Kept = Kept {
     begun: BLANK,
-    history: History {
-        cells: 0,
-        workers: 0,
-        versions: 0,
+    watch: Watch {
+        history: History {
+            cells: 0,
+            workers: 0,
+            versions: 0,
+        },
+        nodes: [0u64; NODE_TABLE],
+        versions: [0u64; VERSION_TABLE],
+        board: [Worker { phase: Phase::Idle }; MOST_WORKERS],
     },
-    board: [Worker { phase: Phase::Idle }; MOST_WORKERS],
 };
-
-// What is kept behind a chunk, and where the text of the answers ends.
-#[derive(Clone, Copy)]
-pub struct Served {
-    pub kept: Kept,
-    pub filled: usize,
-}

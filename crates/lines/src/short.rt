@@ -1,6 +1,6 @@
-// A step with a number of one or two digits, found in a chunk without a search for the line's end.
+// A step with a number of one or two digits, found where it lies without a search for the line's end.
 // Most lines of a listing are such; any other line is found by places.rt.
-ghost use Rattle.std.specs.Prelude.{◌≡◌, ◌≤◌, length};
+ghost use Rattle.std.specs.Prelude.{◌≡◌};
 ghost use Rattle.lines.specs.Places.{digit_of, Found};
 
 use crate::Step;
@@ -22,24 +22,19 @@ fn digit(b: u8) -> Option<u64>
 }
 
 // A step with a number of one or two digits is found without a search for the line's end: most lines of a listing are such.
-pub(crate) fn short_step(chunk: &[u8], i: usize) -> Option<Step>
-    requires { i ≤ length chunk.now }
-    ensures { Found chunk.now i result }
+pub(crate) fn short_step(line: &[u8]) -> Option<Step>
+    ensures { Found line.now 0 result }
 {
-    let line = &chunk[i..];
     if line.len() < TWO_DIGITS || !line.starts_with(WORD) {
         return None;
     }
     let tens = digit(line[5])?;
-    let (worker, length) = match digit(line[6]) {
+    let (worker, end) = match digit(line[6]) {
         Some(ones) => (10 * tens + ones, 7),
         None => (tens, 6),
     };
-    if line[length] != b'\n' {
+    if line[end] != b'\n' {
         return None;
     }
-    Some(Step {
-        worker,
-        end: i + length,
-    })
+    Some(Step { worker, end })
 }

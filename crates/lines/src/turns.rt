@@ -1,29 +1,24 @@
 // One line served that is no step of the history under way: the call that it makes, and the history after it.
 // The board and the tables are lent on; of the version table exactly the words of V versions.
 ghost use Rattle.std.specs.Prelude.{◌≡◌, false};
+ghost use Rattle.grammar.specs.Text.{accepted_text};
+ghost use Rattle.trie.specs.Values.{accepted_of};
 ghost use Rattle.lines.specs.declared.History.{History};
-ghost use Rattle.lines.specs.Watch.{watch, Roomy};
-ghost use Rattle.lines.specs.Turns.{turned, start_line, open_line, line_turn};
+ghost use Rattle.lines.specs.Watch.{watch};
+ghost use Rattle.lines.specs.Turns.{answered, turned, start_line, open_line, line_turn};
 ghost use Rattle.lines.specs.Calling.{stepping};
 
 use crate::histories::{is_open, words};
-use crate::{History, LISTED_CELLS};
+use crate::{History, LISTED_CELLS, NODE_TABLE, VERSION_TABLE, Watch};
 use grammar::Command;
-use trie::{Operation, Refusal, Worker};
+use trie::{MOST_WORKERS, Operation, Refusal, Worker};
 
 // A start leaves the history as it is; before the first accepted open it is refused with 10.
 #[tactic(auto, unfolding(crate::specs::Turns::start_line, grammar::specs::Text::accepted_text))]
-fn start_turn(
-    worker: u64,
-    operation: Operation,
-    h: History,
-    nodes: &[u64],
-    versions: &[u64],
-    board: &mut [Worker],
-) -> Result<History, Refusal>
-    requires { Roomy nodes.now versions.now }
-    ensures { turned result h nodes.now versions.now board.new ≡ start_line worker operation (watch h nodes.now versions.now board.old) }
+fn start_turn(worker: u64, operation: Operation, watch: &mut Watch) -> Result<(), Refusal>
+    ensures { answered (accepted_text (accepted_of result)) watch.new ≡ start_line worker operation watch.old }
 {
+    let h = watch.history;
     if !is_open(h) {
         return Err(Refusal::Command);
     }
@@ -33,22 +28,21 @@ fn start_turn(
         h.workers,
         worker,
         operation,
-        nodes,
-        &versions[..lent],
-        board,
-    )?;
-    Ok(h)
+        &watch.nodes,
+        &watch.versions[..lent],
+        &mut watch.board,
+    )
 }
 
 // An open of more than 16 cells is refused with 1; where it is accepted, its N, W and V are the history, whatever was before.
+// The tables and the board are lent one by one, since the check shows no fact of what an array in a struct ends as when a part of it is lent.
 #[tactic(auto, unfolding(crate::specs::Turns::open_line, grammar::specs::Text::accepted_text))]
 fn open_turn(
     asked: History,
-    nodes: &mut [u64],
-    versions: &mut [u64],
-    board: &mut [Worker],
+    nodes: &mut [u64; NODE_TABLE],
+    versions: &mut [u64; VERSION_TABLE],
+    board: &mut [Worker; MOST_WORKERS],
 ) -> Result<History, Refusal>
-    requires { Roomy nodes.old versions.old }
     ensures { (h : History) → turned result h nodes.new versions.new board.new ≡ open_line asked.cells asked.workers asked.versions (watch h nodes.old versions.old board.old) }
 {
     if LISTED_CELLS < asked.cells {
@@ -68,33 +62,29 @@ fn open_turn(
 // Carries out what a line asks for: a line that is no command is refused with 10.
 // A step of a history under way does not come here, as runs of steps are served by themselves; so one that comes is before the first accepted open.
 #[tactic(auto, unfolding(crate::specs::Turns::line_turn, crate::specs::Turns::step_line, grammar::specs::Text::accepted_text))]
-pub(crate) fn take_turn(
-    line: Option<Command>,
-    h: History,
-    nodes: &mut [u64],
-    versions: &mut [u64],
-    board: &mut [Worker],
-) -> Result<History, Refusal>
-    requires { Roomy nodes.old versions.old × (stepping line h ≡ false) }
-    ensures { turned result h nodes.new versions.new board.new ≡ line_turn line (watch h nodes.old versions.old board.old) }
+pub(crate) fn take_turn(line: Option<Command>, watch: &mut Watch) -> Result<(), Refusal>
+    requires { stepping line watch.old.history ≡ false }
+    ensures { answered (accepted_text (accepted_of result)) watch.new ≡ line_turn line watch.old }
 {
     let Some(command) = line else {
         return Err(Refusal::Command);
     };
     match command {
         Command::Step(_) => Err(Refusal::Command),
-        Command::Start(worker, operation) => {
-            start_turn(worker, operation, h, nodes, versions, board)
-        }
-        Command::Open(cells, workers, asked) => open_turn(
-            History {
+        Command::Start(worker, operation) => start_turn(worker, operation, watch),
+        Command::Open(cells, workers, versions) => {
+            let asked = History {
                 cells,
                 workers,
-                versions: asked,
-            },
-            nodes,
-            versions,
-            board,
-        ),
+                versions,
+            };
+            watch.history = open_turn(
+                asked,
+                &mut watch.nodes,
+                &mut watch.versions,
+                &mut watch.board,
+            )?;
+            Ok(())
+        }
     }
 }

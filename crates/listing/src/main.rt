@@ -2,21 +2,18 @@
 // Nothing is kept but the line that is begun, the history and its tables, so the input may be of any length.
 #![tactic(auto)]
 
-use lines::{ANSWERS, AT_START, CHUNK, Kept, NODE_TABLE, Served, VERSION_TABLE};
+use lines::{ANSWERS, AT_START, CHUNK, Kept};
 use std::io;
 use std::io::{Read, Write};
 
 fn main(rt: HostRuntime) -> io::Result<()> {
     let mut chunk = [0u8; CHUNK];
     let mut out = [0u8; ANSWERS];
-    let mut nodes = [0u64; NODE_TABLE];
-    let mut versions = [0u64; VERSION_TABLE];
     let mut kept = AT_START;
     for _ in 0..u64::MAX {
         let n = read(&rt, &mut rt.stdin(), &mut chunk)?;
-        let served = serve(&chunk, n, kept, &mut nodes, &mut versions, &mut out);
-        kept = served.kept;
-        if !write(&rt, &out, served.filled)? || n == 0 {
+        let filled = serve(&mut kept, &chunk, n, &mut out);
+        if !write(&rt, &out, filled)? || n == 0 {
             return Ok(());
         }
     }
@@ -35,18 +32,11 @@ fn read(rt: &impl Eprint, input: &mut impl Read, chunk: &mut [u8; CHUNK]) -> io:
 }
 
 // The bytes that were read are served; where there are none, the input has ended.
-fn serve(
-    chunk: &[u8; CHUNK],
-    n: usize,
-    kept: Kept,
-    nodes: &mut [u64; NODE_TABLE],
-    versions: &mut [u64; VERSION_TABLE],
-    out: &mut [u8; ANSWERS],
-) -> Served {
+fn serve(kept: &mut Kept, chunk: &[u8; CHUNK], n: usize, out: &mut [u8; ANSWERS]) -> usize {
     if n == 0 {
-        return lines::finish(kept, nodes, versions, out);
+        return kept.finish(out);
     }
-    lines::serve(chunk, n, kept, nodes, versions, out)
+    kept.serve(chunk, n, out)
 }
 
 // Writes the answers, or tells that the buffer has not so many bytes; where that fails, says so.
