@@ -1,4 +1,4 @@
--- What the code does with one record of the board's words, once the lengths have been judged: the contract of `lost` and the laws of the calls speak of it.
+-- What the code does with one record of the board's words, once the lengths have been judged: the contract of `refusal_of_lost` and the laws of the calls speak of it.
 -- Assumes nothing.
 use Rattle.std.specs.Prelude.{List, ℕ, ◌+◌, Option, None, Some}
 use Rattle.trie.specs.declared.Operation.{Operation}

@@ -9,7 +9,7 @@ use tables::put;
 use trie::{Answer, Refusal};
 
 // What C is told of a call: 0, or the refusal's number.
-pub(crate) fn number(told: Result<(), Refusal>) -> u64
+pub(crate) fn number_told(told: Result<(), Refusal>) -> u64
     ensures { result ≡ number_by told }
 {
     match told {
@@ -18,7 +18,7 @@ pub(crate) fn number(told: Result<(), Refusal>) -> u64
     }
 }
 
-// The kinds of answers, as C names them. `Answer` is the enum of them, so that none stands between it and the numbers.
+// The kinds of answers, as C meets them in the row of `kite_step` and `kite_energy`. `Answer` is the enum of them, so that none stands between it and the numbers.
 pub(crate) const ON_KIND: u64 = 0;
 
 const YES_KIND: u64 = 1;

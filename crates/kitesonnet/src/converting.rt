@@ -4,7 +4,7 @@ ghost use Rattle.std.specs.Prelude.{◌≡◌};
 ghost use Rattle.kitesonnet.specs.Calls.{number_by, converted, kite_energy_of};
 
 use crate::ANSWER_WORDS;
-use crate::answers::{ENERGY_KIND, number, put_answer};
+use crate::answers::{ENERGY_KIND, number_told, put_answer};
 use decibel::{Level, convert};
 use trie::Refusal;
 
@@ -25,5 +25,5 @@ fn energy(level: u64, answer: &mut [u64]) -> Result<(), Refusal>
 pub extern "C" fn kite_energy(level: u64, answer: &mut [u64]) -> u64
     ensures { converted result answer.new ≡ kite_energy_of level answer.old }
 {
-    number(energy(level, answer))
+    number_told(energy(level, answer))
 }

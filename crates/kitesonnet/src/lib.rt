@@ -18,6 +18,7 @@ pub const RECORD_WORDS: usize = 12;
 
 pub const ANSWER_WORDS: usize = 3;
 
+// The calls are no twins of board's: words may be no record, which has a refusal at a place of its own, and an answer has a row.
 pub use converting::kite_energy;
 pub use opening::kite_open;
 pub use starting::kite_start;

@@ -5,13 +5,14 @@ ghost use Rattle.kitesonnet.specs.Seats.{record_words, seats_rested};
 ghost use Rattle.kitesonnet.specs.Calls.{lent, number_by, back, kite_open_of};
 
 use crate::RECORD_WORDS;
-use crate::answers::number;
+use crate::answers::number_told;
 use crate::seats::put_record;
 use judging::is_manned;
 use records::rested;
 use trie::Refusal;
 
 // Workers 0 to w - 1 rest.
+// Record by record, and not by a fill with zeros: only writing.rs knows that an idle record is twelve zeros.
 #[tactic(auto, using(crate::proofs::SeatLaws::rested_first, crate::proofs::SeatLaws::rested_on))]
 fn rest(w: usize, board: &mut [u64])
     requires { record_words * w ≤ length board.old }
@@ -55,5 +56,5 @@ pub extern "C" fn kite_open(
 ) -> u64
     ensures { back result (lent nodes.new versions.new board.new) ≡ kite_open_of n w (lent nodes.old versions.old board.old) }
 {
-    number(open(n, w, nodes, versions, board))
+    number_told(open(n, w, nodes, versions, board))
 }

@@ -6,7 +6,7 @@ ghost use Rattle.kitesonnet.specs.Operations.{update_of, query_of, operation_of}
 use decibel::Level;
 use trie::{Operation, Query, Update};
 
-// The kinds of operations, as C names them. `Operation` is the enum of them, so that none stands between it and the numbers.
+// The kinds of operations, as C lends them to `kite_start` and as they stand in the board's words. `Operation` is the enum of them, so that none stands between it and the numbers.
 pub(crate) const INSERT_KIND: u64 = 1;
 
 pub(crate) const DELETE_KIND: u64 = 2;

@@ -20,7 +20,7 @@ fn owed(share: u64, w: Worker) -> Result<u64, Damage>
     }
 }
 
-// No twin of the sum that crate `board` has of its records: words may be no record, and then the sum is none.
+// Crate `board` counts by a tally, for speed; words that are no record stop this sum at once.
 pub(crate) fn promised_in(share: u64, w: usize, board: &[u64]) -> Result<u64, Damage>
     requires { (share ≤ most_share) × (w ≤ most_workers) × (record_words * w ≤ length board.now) }
     ensures { result ≡ promised_in share w board.now }

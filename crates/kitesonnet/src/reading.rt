@@ -10,7 +10,7 @@ use decibel::Energy;
 use records::rested;
 use trie::{Climb, Held, NodeNumber, Phase, Query, Standing, Update, VersionNumber, Worker};
 
-// The phases of a worker as C has them, the first word of its record. `Phase` is the enum of them, so that none stands between it and the numbers.
+// The phases of a worker as they stand in the board's words, which C lends: the first word of its record. `Phase` is the enum of them, so that none stands between it and the numbers.
 pub(crate) const IDLE_PHASE: u64 = 0;
 
 pub(crate) const READ_PHASE: u64 = 1;

@@ -8,8 +8,6 @@ use crate::reading::record_of;
 use crate::writing::words_of;
 use trie::Worker;
 
-// Both take the board and a worker whose words it has: where the twelve words alone are lent out of it, no proof tells what the board ends as.
-
 // The record of worker i, or that its words are none.
 // They are taken by value: read one by one where they lie, they make a step a tenth longer.
 pub(crate) fn record_at(board: &[u64], i: usize) -> Option<Worker>
@@ -21,6 +19,7 @@ pub(crate) fn record_at(board: &[u64], i: usize) -> Option<Worker>
 }
 
 // The record of worker i, written in its words.
+// It takes the board whole: where the twelve words alone are lent out of it, no proof tells what the board ends as.
 // Word by word: copied as a slice, words that are just made are waited for, and a step takes a third longer.
 // Always inlined, as `words_of` is: behind several `?` the compiler takes a call for rare, and with words handed on in memory a step takes half as long again.
 #[inline(always)]

@@ -4,7 +4,7 @@ ghost use Rattle.std.specs.Prelude.{◌≡◌};
 ghost use Rattle.kitesonnet.specs.Calls.{lent, number_by, back, kite_start_of};
 
 use crate::RECORD_WORDS;
-use crate::answers::number;
+use crate::answers::number_told;
 use crate::operations::operation_of;
 use crate::promising::promised_in;
 use crate::seats::{put_record, record_at};
@@ -55,5 +55,5 @@ pub extern "C" fn kite_start(
     ensures { back result (lent nodes.now versions.now board.new)
         ≡ kite_start_of n w i kind first second (lent nodes.now versions.now board.old) }
 {
-    number(start(n, w, i, kind, first, second, nodes, versions, board))
+    number_told(start(n, w, i, kind, first, second, nodes, versions, board))
 }

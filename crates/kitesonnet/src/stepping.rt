@@ -4,7 +4,7 @@ ghost use Rattle.std.specs.Prelude.{◌≡◌};
 ghost use Rattle.kitesonnet.specs.Calls.{lent, number_by, back, answered, kite_step_of};
 ghost use Rattle.kitesonnet.specs.OneRecord.{lost_in};
 
-use crate::answers::{ON_KIND, number, put_answer, put_value};
+use crate::answers::{ON_KIND, number_told, put_answer, put_value};
 use crate::seats::{put_record, record_at};
 use crate::{ANSWER_WORDS, RECORD_WORDS};
 use judging::judge;
@@ -14,7 +14,7 @@ use tables::{is_allowed, is_roomy};
 use trie::{Next, Refusal};
 
 // The refusal of a worker whose words are no record: 1 and 3 go before 9.
-fn lost(n: u64, nodes: &[u64], versions: &[u64]) -> Refusal
+fn refusal_of_lost(n: u64, nodes: &[u64], versions: &[u64]) -> Refusal
     ensures { result ≡ lost_in n nodes.now versions.now }
 {
     if !is_allowed(n) {
@@ -48,7 +48,7 @@ fn step(
     judge(n, w, i, nodes.len(), versions.len(), seats)?;
     let at = i as usize;
     let Some(own) = record_at(board, at) else {
-        return Err(lost(n, nodes, versions));
+        return Err(refusal_of_lost(n, nodes, versions));
     };
     match step_record(n, own, nodes, versions)? {
         Next::On(worker) => {
@@ -77,5 +77,5 @@ pub extern "C" fn kite_step(
     ensures { answered (back result (lent nodes.new versions.new board.new)) answer.new
         ≡ kite_step_of n w i (lent nodes.old versions.old board.old) answer.old }
 {
-    number(step(n, w, i, nodes, versions, board, answer))
+    number_told(step(n, w, i, nodes, versions, board, answer))
 }

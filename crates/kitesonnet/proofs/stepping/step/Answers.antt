@@ -35,7 +35,7 @@ returns-in_err-judge c =
 pub returns-in_default : goal.returns-in_default
 returns-in_default c =
     roomy _ _ _ _ _ _ _ _ c.if-answer-lt-ANSWER_WORDS.false
-    (ap (λ (refusal : Refusal). answered (back (number_of refusal) (lent c.args.nodes.now c.args.versions.now c.args.board.now)) c.args.answer.now) c.lost.ensures
+    (ap (λ (refusal : Refusal). answered (back (number_of refusal) (lent c.args.nodes.now c.args.versions.now c.args.board.now)) c.args.answer.now) c.refusal_of_lost.ensures
     ∙ step_sits _ _ _ _ _ _ _ Option.None (sym c.record_at.ensures ∙ c.in_default.is) (sym c.judge.ensures ∙ c.in_ok-judge.was))
 
 pub returns-in_err-worker : goal.returns-in_err-worker
