@@ -33,6 +33,7 @@ pub const ANSWERS: usize = WIDEST * CHUNK;
 pub(crate) const WIDEST: usize = 64;
 
 // The N, W and V of the history that is under way; zeros before the first accepted open.
+// Callers of `serve` may lend any three numbers, and its contract says what they stand for, so that no open history is zeros and no `None`.
 #[derive(Clone, Copy)]
 pub struct History {
     pub cells: u64,
@@ -41,7 +42,7 @@ pub struct History {
 }
 
 // The bytes of a line whose end has not come yet, with zeros behind them; more held than the longest line has are too many for any command.
-// Callers of `serve` and `finish` may lend any `held`, whose contracts say what it stands for, so a line too long is a number here and no case of its own.
+// Callers of `serve` may lend any `held`, and its contract says what each stands for, so a line too long is a number.
 #[derive(Clone, Copy)]
 pub struct Begun {
     pub bytes: [u8; LONGEST_LINE],
@@ -97,6 +98,7 @@ pub(crate) const BLANK: Begun = Begun {
 };
 
 // What is kept before the first chunk: no line is begun, no history is under way, the tables are blank, and every worker is idle.
+// A constant suffices, since zeros are no sizes that open accepts: `opened` of Watch.antt is false of them.
 pub const AT_START: Kept = Kept {
     begun: BLANK,
     watch: Watch {
