@@ -14,14 +14,9 @@ const TWO_DIGITS: usize = 8;
 fn digit(b: u8) -> Option<u64>
     ensures { result ≡ digit_of b }
 {
-    if b.is_ascii_digit() {
-        Some(u64::from(b - b'0'))
-    } else {
-        None
-    }
+    b.is_ascii_digit().then(|| u64::from(b - b'0'))
 }
 
-// A step with a number of one or two digits is found without a search for the line's end: most lines of a listing are such.
 pub(crate) fn short_step(line: &[u8]) -> Option<Step>
     ensures { Found line.now 0 result }
 {
