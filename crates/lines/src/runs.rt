@@ -21,11 +21,7 @@ fn first_step(p: Place, h: History) -> Option<Step>
     let Some(Command::Step(worker)) = p.line else {
         return None;
     };
-    if is_open(h) {
-        Some(Step { worker, end: p.end })
-    } else {
-        None
-    }
+    is_open(h).then_some(Step { worker, end: p.end })
 }
 
 // The run that the line at a place begins.
