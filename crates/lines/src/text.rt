@@ -1,5 +1,6 @@
 // Answers as lines of text, put at the start of a lent buffer; what is put answers how long it is.
 // Nothing is written but the text itself, so that texts can follow one another in one buffer.
+// No `Display` and `write!`: to a `Cursor` over the buffer they state their bytes as well, but they answer an error that cannot come here, and each contract would have to say so.
 // The four functions of an answer ask for room of WIDEST bytes and take no array of so many, since of a part of a buffer that is lent as an array the check shows no fact of what the buffer ends as.
 ghost use Rattle.std.specs.Prelude.{◌++◌, ◌+◌, ◌≤◌, length};
 ghost use Rattle.trie.specs.Values.{sums, value_of, accepted_of, progress_of};
