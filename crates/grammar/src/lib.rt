@@ -21,7 +21,8 @@ pub const LONGEST_LINE: usize = 40;
 // The most digits of a number: the value of so many can always be held.
 const MOST_DIGITS: usize = 18;
 
-// A number at the start of the bytes. Stops at the nineteenth digit, where the value could no longer be held.
+// A number at the start of the bytes. Stops at the nineteenth digit, as a value of so many may be more than can be held.
+// A walk, and no `position` with a `fold` behind it: the value has to stop before that digit, and the bytes are passed once.
 fn read_number(s: &[u8]) -> Option<(u64, &[u8])>
     ensures { option_map (λ number. (number.0, number.1.now)) result ≡ number_of s.now }
 {

@@ -31,7 +31,7 @@ pub(crate) fn keep(begun: Begun, s: &[u8]) -> Begun
     }
 }
 
-// The line that was begun, now that it has ended.
+// The line that was begun, once it has ended.
 pub(crate) fn begun_line(begun: Begun) -> Option<Command>
     ensures { result ≡ line_at (part_of begun) }
 {
