@@ -41,6 +41,10 @@ most_digits = 18
 unfoldable pub ended : ℕ → ℕ → List ℕ → Option (ℕ × List ℕ)
 ended k v s = pick (leb 1 k && leb k most_digits) (Some (v, s)) None
 
+-- the number that a byte stands for as a digit; `0` is 48 and `9` is 57
+abbrev pub digit_of : ℕ → Option ℕ
+digit_of x = pick (leb 48 x && leb x 57) (Some (x - 48)) None
+
 -- the digits at the start of the bytes, after k digits of value v; `0` is 48 and `9` is 57
 unfoldable pub digits : ℕ → ℕ → List ℕ → Option (ℕ × List ℕ)
 digits k v [] = ended k v []

@@ -3,7 +3,7 @@
 #![tactic(auto)]
 
 ghost use Rattle.std.specs.Prelude.{◌≡◌, option_map};
-ghost use Rattle.grammar.specs.Grammar.{number_of, one_of, first_of, two_of, three_of, argument_of, insert_of, update_of, total_of, query_of, operation_of, step_of, start_of, open_of, command_of, line_of};
+ghost use Rattle.grammar.specs.Grammar.{digit_of, number_of, one_of, first_of, two_of, three_of, argument_of, insert_of, update_of, total_of, query_of, operation_of, step_of, start_of, open_of, command_of, line_of};
 
 use decibel::Level;
 use trie::{Operation, Query, Update};
@@ -21,6 +21,13 @@ pub const LONGEST_LINE: usize = 40;
 // The most digits of a number: the value of so many can always be held.
 const MOST_DIGITS: usize = 18;
 
+// The number that a byte stands for as a digit.
+pub fn digit(b: u8) -> Option<u64>
+    ensures { result ≡ digit_of b }
+{
+    b.is_ascii_digit().then(|| u64::from(b - b'0'))
+}
+
 // A number at the start of the bytes. Stops at the nineteenth digit, as a value of so many may be more than can be held.
 // A walk, and no `position` with a `fold` behind it: the value has to stop before that digit, and the bytes are passed once.
 fn read_number(s: &[u8]) -> Option<(u64, &[u8])>
@@ -28,14 +35,14 @@ fn read_number(s: &[u8]) -> Option<(u64, &[u8])>
 {
     let mut value = 0;
     let mut rest = s;
-    while let Some((digit, tail)) = rest.split_first() {
-        if !digit.is_ascii_digit() {
+    while let Some((byte, tail)) = rest.split_first() {
+        let Some(ones) = digit(*byte) else {
             break;
-        }
+        };
         if s.len() - rest.len() == MOST_DIGITS {
             return None;
         }
-        value = value * 10 + u64::from(*digit - b'0');
+        value = value * 10 + ones;
         rest = tail;
     }
     (rest.len() < s.len()).then_some((value, rest))

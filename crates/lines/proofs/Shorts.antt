@@ -1,20 +1,18 @@
 -- A step with one or two digits, found by its bytes: it is the line that the grammar makes of them.
 -- Assumes nothing.
 use mathlib.Core.Path.{◌≡◌, refl, sym, subst, ap, ◌∙◌}
-use mathlib.Core.Bool.{Bool, true, false, ◌&&◌}
+use mathlib.Core.Bool.{true}
 use mathlib.Core.List.{List, [], ◌∷◌, ◌++◌}
 use Prim.Native.Nat.{ℕ, ◌+◌, ◌*◌, ◌-◌, ◌≤◌}
 use native.Mathlib.Omega.{arith}
-use borrow.Author.Tests.{ne_eqb, le-leb, leb-true}
-use lib.Dec.{leb}
+use borrow.Author.Tests.{ne_eqb, le-leb}
 use lib.ListN.{length, take, drop, get_or}
-use Rattle.std.specs.Prelude.{Some, None}
+use Rattle.std.specs.Prelude.{Some}
 use Rattle.grammar.specs.declared.Command.{Command}
-use Rattle.grammar.specs.Grammar.{ended, digits, number_of, line_of}
-use Rattle.trie.specs.Choice.{pick}
-use Rattle.trie.proofs.SizeLaws.{and_first, and_second}
+use Rattle.grammar.specs.Grammar.{digit_of, ended, digits, number_of, line_of}
+use Rattle.grammar.proofs.Digits.{digit_lies}
 use Rattle.lines.specs.Feeding.{plain, between}
-use Rattle.lines.specs.Places.{digit_of, Found}
+use Rattle.lines.specs.Places.{Found}
 
 six : (l : List ℕ) → 6 ≤ length l → take 6 l ≡ get_or l 0 0 ∷ get_or l 1 0 ∷ get_or l 2 0 ∷ get_or l 3 0 ∷ get_or l 4 0 ∷ get_or l 5 0 ∷ []
 six [] h = absurd (omega arith)
@@ -52,14 +50,6 @@ one_plain d lo = simp (ne_eqb d 10 (λ z. omega arith))
 two_plain : (d f : ℕ) → 48 ≤ d → 48 ≤ f → plain (115 ∷ 116 ∷ 101 ∷ 112 ∷ 32 ∷ d ∷ f ∷ []) ≡ true
 unfolding plain
 two_plain d f lo lo' = simp (ne_eqb d 10 (λ z. omega arith), ne_eqb f 10 (λ z. omega arith))
-
--- a byte that stands for a digit
-lies : (x a : ℕ) → digit_of x ≡ Some a → (48 ≤ x) × (x ≤ 57) × (a ≡ x - 48)
-lies x a e = by (leb 48 x && leb x 57) refl e
-  where
-    by : (t : Bool) → leb 48 x && leb x 57 ≡ t → pick t (Some (x - 48)) None ≡ Some a → (48 ≤ x) × (x ≤ 57) × (a ≡ x - 48)
-    by true q e = (leb-true 48 x (and_first (leb 48 x) (leb x 57) q), leb-true x 57 (and_second (leb 48 x) (leb x 57) q), cc)
-    by false q e = absurd cc
 
 -- ---- the bytes where they lie
 
@@ -99,15 +89,15 @@ module _ (line : List ℕ) (long : 8 ≤ length line) (named : line ≡ (115 ∷
   -- with one digit or two
   pub found_one : (tens k n : ℕ) → digit_of (byte 5) ≡ Some tens → k ≡ tens → n ≡ 6 → byte n ≡ 10 → Found line 0 (Some (record { worker = k; end = n }))
   found_one tens k n et ek en nl =
-      let t = lies (byte 5) tens et in
+      let t = digit_lies (byte 5) tens et in
       let q : k ≡ byte 5 - 48 = omega (arith, ek, t.2) in
       subst (Found line 0) (λ j. Some (record { worker = sym q j; end = sym en j })) (short_one (byte 5) refl t.0 t.1 (ap byte (sym en) ∙ nl))
 
   pub found_two : (tens ones k n : ℕ) → digit_of (byte 5) ≡ Some tens → digit_of (byte 6) ≡ Some ones → k ≡ 10 * tens + ones → n ≡ 7 → byte n ≡ 10
       → Found line 0 (Some (record { worker = k; end = n }))
   found_two tens ones k n et eo ek en nl =
-      let t = lies (byte 5) tens et in
-      let o = lies (byte 6) ones eo in
+      let t = digit_lies (byte 5) tens et in
+      let o = digit_lies (byte 6) ones eo in
       let q : k ≡ 10 * (byte 5 - 48) + (byte 6 - 48) = omega (arith, ek, t.2, o.2) in
       subst (Found line 0) (λ j. Some (record { worker = sym q j; end = sym en j }))
       (short_two (byte 5) refl t.0 t.1 (byte 6) refl o.0 o.1 (ap byte (sym en) ∙ nl))

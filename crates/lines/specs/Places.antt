@@ -1,6 +1,6 @@
 -- The places of a chunk: the line that is next, where it begins and ends, and how far the lines before it are served.
 -- Assumes nothing.
-use Rattle.std.specs.Prelude.{◌≡◌, ◌&&◌, Option, Some, None, Result, ⊤, List, [], ℕ, ◌+◌, ◌*◌, ◌-◌, ◌≤◌, ◌<◌, leb, length, take, drop}
+use Rattle.std.specs.Prelude.{◌≡◌, Option, Some, None, Result, ⊤, List, [], ℕ, ◌+◌, ◌*◌, ◌≤◌, ◌<◌, length, take, drop}
 use Rattle.grammar.specs.declared.Command.{Command}
 use Rattle.grammar.specs.Grammar.{line_of}
 use Rattle.lines.specs.declared.Begun.{Begun}
@@ -18,10 +18,6 @@ use Rattle.lines.specs.declared.Watch.{Watch}
 use Rattle.lines.specs.Watch.{opened}
 use Rattle.lines.specs.Chunks.{line_at, listing, served_of, part_of}
 use Rattle.lines.specs.Feeding.{grown, between, Ends, before}
-
--- the number that a byte stands for as a digit
-abbrev pub digit_of : ℕ → Option ℕ
-digit_of x = pick (leb 48 x && leb x 57) (Some (x - 48)) None
 
 -- a short step is the line from i on, and its newline is in the chunk
 abbrev pub Found : List ℕ → ℕ → Option Step → Type 0

@@ -1,21 +1,15 @@
 // A step with a number of one or two digits, found where it lies without a search for the line's end.
 // Most lines of a listing are such; any other line is found by places.rt.
 ghost use Rattle.std.specs.Prelude.{◌≡◌};
-ghost use Rattle.lines.specs.Places.{digit_of, Found};
+ghost use Rattle.lines.specs.Places.{Found};
 
 use crate::Step;
+use grammar::digit;
 
 const WORD: &[u8] = b"step ";
 
 // The bytes that a step of two digits takes with its newline.
 const TWO_DIGITS: usize = 8;
-
-// The number that a byte stands for as a digit.
-fn digit(b: u8) -> Option<u64>
-    ensures { result ≡ digit_of b }
-{
-    b.is_ascii_digit().then(|| u64::from(b - b'0'))
-}
 
 pub(crate) fn short_step(line: &[u8]) -> Option<Step>
     ensures { Found line.now 0 result }

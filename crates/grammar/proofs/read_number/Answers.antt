@@ -3,41 +3,42 @@
 use Rattle.std.proofs.Common.{arith, ◌≡◌, ◌∙◌, refl, sym, ap, option_map, ℕ, ◌+◌, ◌-◌, ◌≤◌, Bool, true, false, ltb, List, length, Bor}
 use Rattle.std.specs.Bool.{then_some}
 use borrow.Author.Tests.{ltb-true, ltb-false}
-use Rattle.grammar.proofs.Digits.{digits_over, digits_on, digits_stop, digits_done, ten, small, within, none_read}
+use Rattle.grammar.proofs.Digits.{digit_small, digits_over, digits_on, digits_stop, digits_done, ten, small, within, none_read}
 use Rattle.grammar.specs.Grammar.{number_of, digits, ended, most_digits}
-use Rattle.grammar.proofs.read_number.Goals.{in-Some+then-not-is_ascii_digit, in_default}
+use Rattle.grammar.proofs.read_number.Goals.{in-Some+in_default-digit, in_default}
 use Rattle.grammar.proofs.read_number.Goals as goal
 
-pub loop-digit-init : goal.loop-digit-init
+pub loop-byte-init : goal.loop-byte-init
 unfolding number_of
-loop-digit-init c =
+loop-byte-init c =
     let none : length c.args.s.now - length c.args.s.now ≡ 0 = omega arith in
     record { within = omega arith; few = omega arith; held = simp none (omega arith); same = simp none }
 
 pub returns-then-s-rest-eq-MOST_DIGITS : goal.returns-then-s-rest-eq-MOST_DIGITS
 returns-then-s-rest-eq-MOST_DIGITS c =
-    let digit = c.in-Some in
     sym (digits_over (most_digits + 1) _ _ (omega arith))
-    ∙ sym (digits_on _ (most_digits + 1) _ digit.digit.now _ (omega arith) _ _ digit.ensures.cases.0 (sym c.if-not-is_ascii_digit.ensures.value) refl)
-    ∙ c.loop-digit.invariant.same
+    ∙ sym (digits_on _ (most_digits + 1) _ c.in-Some.byte.now _ (omega arith) _ _ c.in-Some.ensures.cases.0 (sym c.digit.ensures ∙ c.in-Some-digit.is))
+    ∙ c.loop-byte.invariant.same
 
 pub overflow_mul-value : goal.overflow_mul-value
-overflow_mul-value c = omega (arith, small (length c.args.s.now - length c.loop-digit.rest.now) (omega arith))
+overflow_mul-value c = omega (arith, small (length c.args.s.now - length c.loop-byte.rest.now) (omega arith))
 
 pub overflow_add-value : goal.overflow_add-value
-overflow_add-value c = omega (arith, small (length c.args.s.now - length c.loop-digit.rest.now) (omega arith))
+overflow_add-value c =
+    omega (arith, small (length c.args.s.now - length c.loop-byte.rest.now) (omega arith), digit_small c.in-Some.byte.now _ (sym c.digit.ensures ∙ c.in-Some-digit.is))
 
-pub loop-digit-preserved : goal.loop-digit-preserved
-loop-digit-preserved c =
-    let loop = c.loop-digit in
-    let digit = c.in-Some in
+pub loop-byte-preserved : goal.loop-byte-preserved
+loop-byte-preserved c =
+    let loop = c.loop-byte in
+    let byte = c.in-Some in
+    let read = sym c.digit.ensures ∙ c.in-Some-digit.is in
     let whole = length c.args.s.now in
-    let next : (whole - length loop.rest.now) + 1 ≡ whole - length digit.tail.now = omega (arith, digit.ensures.cases.1) in
+    let next : (whole - length loop.rest.now) + 1 ≡ whole - length byte.tail.now = omega (arith, byte.ensures.cases.1) in
     record {
-      within = omega (arith, digit.ensures.cases.1);
+      within = omega (arith, byte.ensures.cases.1);
       few = omega arith;
-      held = ten _ _ _ 0 _ next loop.invariant.held (omega (arith, c.if-not-is_ascii_digit.ensures.cases));
-      same = sym (digits_on _ _ _ digit.digit.now _ next _ _ digit.ensures.cases.0 (sym c.if-not-is_ascii_digit.ensures.value) c.from.ensures) ∙ loop.invariant.same;
+      held = ten _ _ _ 0 _ next loop.invariant.held (digit_small c.in-Some.byte.now _ read);
+      same = sym (digits_on _ _ _ byte.byte.now _ next _ _ byte.ensures.cases.0 read) ∙ loop.invariant.same;
     }
 
 -- a number was read where some digits were
@@ -51,11 +52,11 @@ told s v rest few = by (ltb (length rest.now) (length s)) refl
 
 pub returns : goal.returns
 returns c =
-    let loop = c.loop-digit in
+    let loop = c.loop-byte in
     let whole = length c.args.s.now in
     let ends : digits (whole - length loop.rest.now) loop.value loop.rest.now ≡ ended (whole - length loop.rest.now) loop.value loop.rest.now =
     elim c.match-split_first.branch [
-      | in-Some+then-not-is_ascii_digit w ↦ digits_stop _ _ _ _ _ w.in-Some.ensures.cases.0 (sym w.if-not-is_ascii_digit.ensures.value)
+      | in-Some+in_default-digit w ↦ digits_stop _ _ _ _ _ w.in-Some.ensures.cases.0 (sym w.digit.ensures ∙ w.in_default-digit.is)
       | in_default w ↦ digits_done _ _ _ w.in_default.ensures.cases
     ] in
     ap (option_map (λ number. (number.0, number.1.now))) c.then_some.ensures ∙ told c.args.s.now loop.value loop.rest loop.invariant.few ∙ sym ends ∙ loop.invariant.same
