@@ -26,6 +26,7 @@ fn reach(
     add_within(passed, if last { leaf } else { 0 }, most)
 }
 
+// Count and energy are no struct here: they stand as two fields in `Answer::Sums` and in `Phase::Rank`, which callers match.
 fn rank_next(k: u64, next: Standing, last: bool, count: u64, energy: u64) -> Plan
     ensures { Ok result ≡ rank_next k next last count energy }
 {
