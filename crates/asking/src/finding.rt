@@ -17,8 +17,8 @@ fn level_of(r: Version) -> Answer
     }
 }
 
-fn find_seen(k: u64, right: bool, f: Fork) -> Result<Plan, Damage>
-    ensures { result ≡ find_seen k right (Ok f) }
+fn find_seen(k: u64, right: bool, f: Fork) -> Plan
+    ensures { Ok result ≡ find_seen k right (Ok f) }
 {
     let next = towards(right, f);
     if f.last {
@@ -37,5 +37,5 @@ pub fn find(b: Bounds, k: u64, s: Standing, versions: &[u64]) -> Result<Plan, Da
     }
     let f = look(b, s, versions)?;
     let right = turns_right(b, k, s.depth);
-    find_seen(k, right, f)
+    Ok(find_seen(k, right, f))
 }

@@ -16,7 +16,7 @@ fn child(depth: u64, v: VersionNumber, versions: &[u64]) -> Child
     }
 }
 
-// Reads the version where the query stands and both its children, and judges all three.
+// Judged are the version, as any word may stand in a record, and both children, as the left sums count also on the way right.
 #[tactic(auto, unfolding(trie::specs::Asking::look_of, trie::specs::Sound::sound_in))]
 pub(crate) fn look(b: Bounds, s: Standing, versions: &[u64]) -> Result<Fork, Damage>
     ensures value { result ≡ look_of b s versions.now }

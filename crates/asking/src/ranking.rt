@@ -26,8 +26,9 @@ fn reach(
     add_within(passed, if last { leaf } else { 0 }, most)
 }
 
-fn rank_next(k: u64, next: Standing, last: bool, count: u64, energy: u64) -> Result<Plan, Damage>
-    ensures { result ≡ rank_next k next last count energy }
+// Count and energy are no struct here: they stand as two fields in `Answer::Sums` and in `Phase::Rank`, which callers match.
+fn rank_next(k: u64, next: Standing, last: bool, count: u64, energy: u64) -> Plan
+    ensures { Ok result ≡ rank_next k next last count energy }
 {
     if last {
         answer(Answer::Sums(count, Energy(energy)))
@@ -51,7 +52,7 @@ fn rank_seen(
     let left = f.left.version;
     let all = reach(right, f.last, count, left.count, at.count, b.cells)?;
     let sum = reach(right, f.last, energy, left.energy.0, at.energy.0, b.energy)?;
-    rank_next(k, next.standing, f.last, all, sum)
+    Ok(rank_next(k, next.standing, f.last, all, sum))
 }
 
 #[tactic(auto, unfolding(trie::specs::Asking::rank_of))]

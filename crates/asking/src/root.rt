@@ -12,8 +12,8 @@ use trie::{
     Answer, Bounds, Damage, NodeNumber, Phase, Plan, Query, Standing, Version, VersionNumber,
 };
 
-fn first(q: Query, v: VersionNumber, r: Version) -> Result<Plan, Damage>
-    ensures { result ≡ first_of q v r }
+fn first(q: Query, v: VersionNumber, r: Version) -> Plan
+    ensures { Ok result ≡ first_of q v r }
 {
     let root = Standing {
         depth: 0,
@@ -41,5 +41,5 @@ pub fn ask(b: Bounds, q: Query, nodes: &[u64], versions: &[u64]) -> Result<Plan,
         return Err(Damage);
     }
     let v = judged(b, false, versions, VersionNumber(word(nodes, 1)))?;
-    first(q, v, load(versions, v))
+    Ok(first(q, v, load(versions, v)))
 }

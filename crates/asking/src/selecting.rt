@@ -11,15 +11,8 @@ use sound::add_within;
 use tables::ancestor;
 use trie::{Answer, Bounds, Damage, Fork, NodeNumber, Phase, Plan, Standing, TALLEST};
 
-fn select_next(
-    b: Bounds,
-    j: u64,
-    next: Standing,
-    x: u64,
-    passed: u64,
-    last: bool,
-) -> Result<Plan, Damage>
-    ensures { result ≡ select_next b j next x passed last }
+fn select_next(b: Bounds, j: u64, next: Standing, x: u64, passed: u64, last: bool) -> Plan
+    ensures { Ok result ≡ select_next b j next x passed last }
 {
     if last {
         answer(Answer::Cell(x.saturating_sub(b.cells)))
@@ -34,7 +27,7 @@ fn select_right(b: Bounds, j: u64, x: u64, passed: u64, f: Fork) -> Result<Plan,
 {
     let left_behind = f.left.version;
     let more = add_within(passed, left_behind.count, b.cells)?;
-    select_next(b, j, f.right.standing, x, more, f.last)
+    Ok(select_next(b, j, f.right.standing, x, more, f.last))
 }
 
 fn select_seen(b: Bounds, j: u64, x: u64, passed: u64, f: Fork) -> Result<Plan, Damage>
@@ -43,7 +36,7 @@ fn select_seen(b: Bounds, j: u64, x: u64, passed: u64, f: Fork) -> Result<Plan, 
 {
     let left = f.left;
     if j - passed <= left.version.count {
-        select_next(b, j, left.standing, 2 * x, passed, f.last)
+        Ok(select_next(b, j, left.standing, 2 * x, passed, f.last))
     } else {
         select_right(b, j, 2 * x + 1, passed, f)
     }

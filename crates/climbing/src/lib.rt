@@ -24,11 +24,7 @@ fn rise(c: Climb, made: u64) -> Next
     ensures { result ≡ rises c made }
 {
     if c.node.0 == 1 {
-        if c.yes {
-            Next::Done(Answer::Yes)
-        } else {
-            Next::Done(Answer::No)
-        }
+        Next::Done(if c.yes { Answer::Yes } else { Answer::No })
     } else {
         climb_from(c.node, c.update, c.yes, made)
     }
@@ -48,12 +44,12 @@ fn miss(c: Climb) -> Next
     }
 }
 
-fn hold(c: Climb, held: Held) -> Result<Plan, Damage>
-    ensures { result ≡ holds c held }
+fn hold(c: Climb, held: Held) -> Plan
+    ensures { Ok result ≡ holds c held }
 {
-    Ok(Plan::Keep(Next::On(Worker {
+    Plan::Keep(Next::On(Worker {
         phase: Phase::Refresh(c, held),
-    })))
+    }))
 }
 
 // Where the node still has the version read, the sum of its children takes its place.
@@ -114,18 +110,18 @@ pub fn refresh(
     match held {
         Held::Nothing => {
             let v = judged(b, false, versions, VersionNumber(word(nodes, c.node.0)))?;
-            hold(c, Held::Node(v))
+            Ok(hold(c, Held::Node(v)))
         }
         Held::Node(v) => {
             judged(b, false, versions, v)?;
             let l = judged(b, leaves, versions, VersionNumber(word(nodes, left)))?;
-            hold(c, Held::Left(v, l))
+            Ok(hold(c, Held::Left(v, l)))
         }
         Held::Left(v, l) => {
             judged(b, false, versions, v)?;
             judged(b, leaves, versions, l)?;
             let r = judged(b, leaves, versions, VersionNumber(word(nodes, left + 1)))?;
-            hold(c, Held::Both(v, l, r))
+            Ok(hold(c, Held::Both(v, l, r)))
         }
         Held::Both(v, l, r) => {
             judged(b, false, versions, v)?;

@@ -4,11 +4,12 @@
 
 use decibel::{Energy, Level, TooLoud};
 use std::io;
+use trie::Refusal;
 
 fn write_answer(rt: &impl Print, answer: Result<Energy, TooLoud>) -> io::Result<()> {
     match answer {
         Ok(energy) => print!(rt; "{}", energy.0),
-        Err(TooLoud) => print!(rt; "refused 7"),
+        Err(loud) => print!(rt; "refused {}", u64::from(Refusal::from(loud))),
     }
 }
 
