@@ -41,7 +41,7 @@ pub fn bounds(n: u64, nodes: &[u64], versions: &[u64]) -> Bounds
 pub fn is_used_sound(b: Bounds) -> bool
     ensures { result ≡ used_sound b }
 {
-    (b.cells <= b.used / 2 + b.used % 2) & (b.used <= b.room)
+    (b.cells <= b.used.div_ceil(2)) & (b.used <= b.room)
 }
 
 // No branch hangs on whether the cell is marked, as nothing foretells that: where the count is 0, so are the bounds.
@@ -114,16 +114,12 @@ pub fn is_within(a: u64, b: u64, most: u64) -> bool
 pub fn sum_within(a: u64, b: u64, most: u64) -> u64
     ensures { result ≡ pick (leb (a + b) most) (a + b) 0 }
 {
-    if is_within(a, b, most) { a + b } else { 0 }
+    add_within(a, b, most).unwrap_or(0)
 }
 
 // A sum that stays within a bound; one that does not is damage.
 pub fn add_within(a: u64, b: u64, most: u64) -> Result<u64, Damage>
     ensures { result ≡ sum_in a b most }
 {
-    if is_within(a, b, most) {
-        Ok(a + b)
-    } else {
-        Err(Damage)
-    }
+    a.checked_add(b).filter(|&sum| sum <= most).ok_or(Damage)
 }
