@@ -12,7 +12,7 @@ use decibel::{CELL_ENERGY, LOUDEST};
 use tables::{height, load, room, word};
 use trie::{Bounds, Damage, MOST_CELLS, Version, VersionNumber};
 
-// As many cells as a tree may have, else none.
+// As many cells as a tree may have, else none. 0 stands for none, as `bounds` cannot fail.
 fn within_a_tree(n: u64) -> u64
     ensures value { result ≡ pick (leb n most_cells) n 0 }
     ensures upper_bound { result ≤ most_cells }
@@ -81,6 +81,7 @@ pub fn is_sound(b: Bounds, leaf: bool, v: VersionNumber, r: Version) -> bool
 }
 
 // The version of number v, as it stands in the table; it is read only where there is such a number.
+// Not `is_sound` of a loaded version, which would be read before its number is judged.
 // Inlined, as `judged` is: a call for each of a refresh's versions makes every step a tenth longer.
 #[tactic(auto, unfolding(trie::specs::Sound::sound_in, trie::specs::Sound::sound_at))]
 #[inline(always)]
