@@ -30,11 +30,7 @@ pub fn put(table: &mut [u64], i: u64, x: u64)
 fn place(words: usize, v: VersionNumber) -> Option<usize>
     ensures { result ≡ pick (leb 1 v.0 && leb v.0 (words / width)) (Some (width * (v.0 - 1))) None }
 {
-    if 1 <= v.0 && v.0 <= words as u64 / VERSION_WORDS {
-        Some((VERSION_WORDS * (v.0 - 1)) as usize)
-    } else {
-        None
-    }
+    (1 <= v.0 && v.0 <= words as u64 / VERSION_WORDS).then(|| (VERSION_WORDS * (v.0 - 1)) as usize)
 }
 
 #[tactic(auto, unfolding(trie::specs::Tables::version_at))]
