@@ -16,7 +16,7 @@ pub(crate) fn share(n: u64) -> u64
 }
 
 // The updates among some workers: how many there are, how many versions they have made, and whether each is within its share.
-// A flag and no Result, as loops that stopped at damage were tried, and made starts and steps a seventh and a quarter slower (docs/DECISIONS.md, 42).
+// A flag and no Result: loops that stop at damage make starts and steps a seventh and a quarter slower (docs/DECISIONS.md, 42).
 #[derive(Clone, Copy)]
 struct Tally {
     updates: u64,
@@ -42,13 +42,10 @@ fn made_low(w: Worker) -> u64
 }
 
 // Whether the worker's update has made no more than its share.
-fn is_within(share: u64, w: Worker) -> bool
+fn is_within_share(share: u64, w: Worker) -> bool
     ensures { result ≡ leb (made_of w.phase) share }
 {
-    match w.phase {
-        Phase::Refresh(c, _) => c.made <= share,
-        _ => true,
-    }
+    !matches!(w.phase, Phase::Refresh(c, _) if share < c.made)
 }
 
 // One worker more. No sum hangs on a branch by what the worker is at: nothing foretells that.
@@ -60,7 +57,7 @@ fn count_in(share: u64, t: Tally, w: Worker) -> Tally
     Tally {
         updates: t.updates + u64::from(records::is_updating(w)),
         made: t.made + made_low(w),
-        within: t.within & is_within(share, w),
+        within: t.within & is_within_share(share, w),
     }
 }
 

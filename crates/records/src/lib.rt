@@ -26,8 +26,7 @@ pub fn cell(u: Update) -> u64
     ensures { result ≡ cell_of u }
 {
     match u {
-        Update::Insert(k, _) => k,
-        Update::Delete(k) => k,
+        Update::Insert(k, _) | Update::Delete(k) => k,
     }
 }
 
@@ -52,9 +51,8 @@ pub fn query_fits(n: u64, q: Query) -> bool
     ensures { result ≡ query_fits n q }
 {
     match q {
-        Query::Find(k) => k < n,
+        Query::Find(k) | Query::Rank(k) => k < n,
         Query::Select(j) => 1 <= j,
-        Query::Rank(k) => k < n,
         Query::Total => true,
     }
 }

@@ -12,7 +12,7 @@ use climbing::refresh;
 use marking::{read, swap};
 use records::is_busy;
 use sound::{bounds, is_used_sound};
-use tables::{is_allowed, is_roomy, put, store};
+use tables::{judge_tables, put, store};
 use trie::{Bounds, Next, Phase, Plan, Refusal, Worker};
 
 #[tactic(auto, unfolding(trie::specs::Stepping::carry_of))]
@@ -69,12 +69,7 @@ pub fn step_record(
 ) -> Result<Next, Refusal>
     ensures { stepped_by result w nodes.new versions.new ≡ step_record_of n w nodes.old versions.old }
 {
-    if !is_allowed(n) {
-        return Err(Refusal::Cells);
-    }
-    if !is_roomy(n, nodes, versions) {
-        return Err(Refusal::Tables);
-    }
+    judge_tables(n, nodes, versions)?;
     if !is_busy(w) {
         return Err(Refusal::Idle);
     }

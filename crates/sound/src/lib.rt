@@ -12,7 +12,7 @@ use decibel::{CELL_ENERGY, LOUDEST};
 use tables::{height, load, room, word};
 use trie::{Bounds, Damage, MOST_CELLS, Version, VersionNumber};
 
-// As many cells as a tree may have, else none.
+// As many cells as a tree may have, else none. 0 stands for none, as `bounds` cannot fail.
 fn within_a_tree(n: u64) -> u64
     ensures value { result ≡ pick (leb n most_cells) n 0 }
     ensures upper_bound { result ≤ most_cells }
@@ -41,7 +41,7 @@ pub fn bounds(n: u64, nodes: &[u64], versions: &[u64]) -> Bounds
 pub fn is_used_sound(b: Bounds) -> bool
     ensures { result ≡ used_sound b }
 {
-    (b.cells <= b.used / 2 + b.used % 2) & (b.used <= b.room)
+    (b.cells <= b.used.div_ceil(2)) & (b.used <= b.room)
 }
 
 // No branch hangs on whether the cell is marked, as nothing foretells that: where the count is 0, so are the bounds.
@@ -81,6 +81,7 @@ pub fn is_sound(b: Bounds, leaf: bool, v: VersionNumber, r: Version) -> bool
 }
 
 // The version of number v, as it stands in the table; it is read only where there is such a number.
+// Not `is_sound` of a loaded version, which would be read before its number is judged.
 // Inlined, as `judged` is: a call for each of a refresh's versions makes every step a tenth longer.
 #[tactic(auto, unfolding(trie::specs::Sound::sound_in, trie::specs::Sound::sound_at))]
 #[inline(always)]
@@ -114,16 +115,12 @@ pub fn is_within(a: u64, b: u64, most: u64) -> bool
 pub fn sum_within(a: u64, b: u64, most: u64) -> u64
     ensures { result ≡ pick (leb (a + b) most) (a + b) 0 }
 {
-    if is_within(a, b, most) { a + b } else { 0 }
+    add_within(a, b, most).unwrap_or(0)
 }
 
 // A sum that stays within a bound; one that does not is damage.
 pub fn add_within(a: u64, b: u64, most: u64) -> Result<u64, Damage>
     ensures { result ≡ sum_in a b most }
 {
-    if is_within(a, b, most) {
-        Ok(a + b)
-    } else {
-        Err(Damage)
-    }
+    a.checked_add(b).filter(|&sum| sum <= most).ok_or(Damage)
 }

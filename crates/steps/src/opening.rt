@@ -4,7 +4,7 @@ ghost use Rattle.std.specs.Prelude.{◌≡◌, ◌<◌, ℕ};
 ghost use Rattle.trie.specs.Values.{accepted_of};
 ghost use Rattle.trie.specs.Opening.{Opened, filled, first_word, open_tables_of};
 
-use tables::{is_allowed, is_roomy, put};
+use tables::{judge_tables, put};
 use trie::{Refusal, VERSION_WORDS};
 
 fn first_word(n: u64, i: u64) -> u64
@@ -34,12 +34,7 @@ fn fill<F: Fn(u64) -> u64>(table: &mut [u64], end: u64, first: F)
 pub fn open_tables(n: u64, nodes: &mut [u64], versions: &mut [u64]) -> Result<(), Refusal>
     ensures { ◌≡◌ {A = Opened} (record { told = accepted_of result; nodes = nodes.new; versions = versions.new }) (open_tables_of n nodes.old versions.old) }
 {
-    if !is_allowed(n) {
-        return Err(Refusal::Cells);
-    }
-    if !is_roomy(n, nodes, versions) {
-        return Err(Refusal::Tables);
-    }
+    judge_tables(n, nodes, versions)?;
     let used = 2 * n - 1;
     fill(nodes, used + 1, |x| if x == 0 { used } else { x });
     fill(versions, VERSION_WORDS * used, |i| first_word(n, i));

@@ -7,7 +7,7 @@ ghost use Rattle.trie.specs.Starting.{check, started_by, shared, start_record_of
 
 use records::{is_busy, operation_fits};
 use sound::{add_within, bounds, is_used_sound, is_within};
-use tables::{is_allowed, is_roomy};
+use tables::judge_tables;
 use trie::{Bounds, Damage, Operation, Phase, Refusal, Worker};
 
 // Whether used, what is promised and one share more are within V.
@@ -52,12 +52,7 @@ pub fn start_record(
 ) -> Result<Worker, Refusal>
     ensures { started_by result w ≡ start_record_of n o promised w nodes.now versions.now }
 {
-    if !is_allowed(n) {
-        return Err(Refusal::Cells);
-    }
-    if !is_roomy(n, nodes, versions) {
-        return Err(Refusal::Tables);
-    }
+    judge_tables(n, nodes, versions)?;
     if is_busy(w) {
         return Err(Refusal::Busy);
     }

@@ -2,11 +2,14 @@
 // Whatever a table does not have reads as 0, and is not written.
 ghost use Rattle.std.specs.Prelude.{◌≡◌, ◌&&◌, ◌*◌, ◌-◌, ◌/◌, Some, None, leb, get_or, set};
 ghost use Rattle.trie.specs.Choice.{pick};
-ghost use Rattle.trie.specs.Tables.{width, room_by, room_of, version_at, version_put, roomy_by, roomy};
+ghost use Rattle.trie.specs.Tables.{width, room_by, room_of, version_at, version_put, roomy_by, roomy, tables_judged};
 
 use decibel::{Energy, Level};
-use trie::{MOST_VERSIONS, VERSION_WORDS, Version, VersionNumber};
+use trie::{MOST_VERSIONS, Refusal, VERSION_WORDS, Version, VersionNumber};
 
+use crate::size::is_allowed;
+
+// `as`, as u64 and usize have no From for one another, and `try_from` would bring a refusal that cannot occur: the check proves that no bit is lost.
 pub fn word(table: &[u64], i: u64) -> u64
     ensures { result ≡ get_or table.now i 0 }
 {
@@ -27,11 +30,7 @@ pub fn put(table: &mut [u64], i: u64, x: u64)
 fn place(words: usize, v: VersionNumber) -> Option<usize>
     ensures { result ≡ pick (leb 1 v.0 && leb v.0 (words / width)) (Some (width * (v.0 - 1))) None }
 {
-    if 1 <= v.0 && v.0 <= words as u64 / VERSION_WORDS {
-        Some((VERSION_WORDS * (v.0 - 1)) as usize)
-    } else {
-        None
-    }
+    (1 <= v.0 && v.0 <= words as u64 / VERSION_WORDS).then(|| (VERSION_WORDS * (v.0 - 1)) as usize)
 }
 
 #[tactic(auto, unfolding(trie::specs::Tables::version_at))]
@@ -90,4 +89,17 @@ pub fn is_roomy(n: u64, nodes: &[u64], versions: &[u64]) -> bool
     ensures { result ≡ roomy n nodes.now versions.now }
 {
     is_roomy_by(n, nodes.len(), versions.len())
+}
+
+// What every call on lent tables begins with: refusals 1 and 3.
+pub fn judge_tables(n: u64, nodes: &[u64], versions: &[u64]) -> Result<(), Refusal>
+    ensures { result ≡ tables_judged n nodes.now versions.now }
+{
+    if !is_allowed(n) {
+        return Err(Refusal::Cells);
+    }
+    if !is_roomy(n, nodes, versions) {
+        return Err(Refusal::Tables);
+    }
+    Ok(())
 }

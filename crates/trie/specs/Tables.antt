@@ -1,9 +1,11 @@
 -- How versions and nodes stand in the lent tables.
 -- Document 01, "Tables" and the row "versions V". Assumes nothing.
-use Rattle.std.specs.Prelude.{Bool, ◌&&◌, List, ℕ, ◌+◌, ◌*◌, ◌-◌, ◌/◌, leb, min, length, get_or, set}
+use Rattle.std.specs.Prelude.{Bool, ◌&&◌, List, ℕ, ◌+◌, ◌*◌, ◌-◌, ◌/◌, leb, min, length, get_or, set, ⊤, Result}
 use Rattle.trie.specs.declared.VersionNumber.{VersionNumber}
 use Rattle.trie.specs.declared.Version.{Version}
+use Rattle.trie.specs.declared.Refusal.{Refusal}
 use Rattle.trie.specs.Choice.{pick}
+use Rattle.trie.specs.Size.{allowed}
 
 -- the words of a version
 abbrev pub width : ℕ
@@ -56,3 +58,8 @@ roomy_by n nodes versions = leb (2 * n) nodes && leb (2 * n - 1) (room_by versio
 
 unfoldable pub roomy : ℕ → List ℕ → List ℕ → Bool
 roomy n nodes versions = roomy_by n (length nodes) (length versions)
+
+-- what is told of tables lent for n cells, before anything is read in them: 1 goes before 3
+abbrev pub tables_judged : ℕ → List ℕ → List ℕ → Result ⊤ Refusal
+tables_judged n nodes versions =
+    pick (allowed n) (pick (roomy n nodes versions) (Result.Ok tt) (Result.Err Refusal.Tables)) (Result.Err Refusal.Cells)

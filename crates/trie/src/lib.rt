@@ -24,6 +24,7 @@ pub const VERSION_WORDS: u64 = 5;
 pub struct NodeNumber(pub u64);
 
 // Versions are numbered from 1; a leaf's version has 0 for left and right.
+// No Option: these numbers are the tables' words, and 0 is the page's none.
 #[derive(Clone, Copy, Default)]
 pub struct VersionNumber(pub u64);
 
@@ -178,7 +179,8 @@ pub enum Progress {
     Done(Answer),
 }
 
-// A worker after its step: under way, or idle with its answer given. No Result, as neither is a failure.
+// A worker after its step: under way, or idle with its answer given. No Result, as neither is a failure,
+// and no ControlFlow, as neither breaks anything off; the names are the page's.
 #[derive(Clone, Copy)]
 pub enum Next {
     On(Worker),
