@@ -10,21 +10,14 @@ use crate::{ANSWER_WORDS, RECORD_WORDS};
 use judging::judge;
 use records::rested;
 use single::step_record;
-use tables::{is_allowed, is_roomy};
+use tables::judge_tables;
 use trie::{Next, Refusal};
 
 // The refusal of a worker whose words are no record: 1 and 3 go before 9.
 fn refusal_of_lost(n: u64, nodes: &[u64], versions: &[u64]) -> Refusal
     ensures { result ≡ lost_in n nodes.now versions.now }
 {
-    if !is_allowed(n) {
-        return Refusal::Cells;
-    }
-    if is_roomy(n, nodes, versions) {
-        Refusal::Damaged
-    } else {
-        Refusal::Tables
-    }
+    judge_tables(n, nodes, versions).err().unwrap_or(Refusal::Damaged)
 }
 
 // After an answer the words are those of an idle record.
