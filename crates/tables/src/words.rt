@@ -9,7 +9,7 @@ use trie::{MOST_VERSIONS, Refusal, VERSION_WORDS, Version, VersionNumber};
 
 use crate::size::is_allowed;
 
-// `as`, as u64 and usize have no From for one another, and `try_from` would bring a refusal that cannot occur: the check proves that no bit is lost.
+// `as`: u64 and usize have no From for one another, and `try_from` would bring a refusal that cannot occur, as the check proves that no bit is lost.
 pub fn word(table: &[u64], i: u64) -> u64
     ensures { result ≡ get_or table.now i 0 }
 {
