@@ -4,10 +4,9 @@ ghost use Rattle.std.specs.Prelude.{◌≡◌, ◌&&◌, ◌*◌, ◌-◌, ◌/�
 ghost use Rattle.trie.specs.Choice.{pick};
 ghost use Rattle.trie.specs.Tables.{width, room_by, room_of, version_at, version_put, roomy_by, roomy, tables_judged};
 
+use crate::size::is_allowed;
 use decibel::{Energy, Level};
 use trie::{MOST_VERSIONS, Refusal, VERSION_WORDS, Version, VersionNumber};
-
-use crate::size::is_allowed;
 
 // `as`: u64 and usize have no From for one another, and `try_from` would bring a refusal that cannot occur, as the check proves that no bit is lost.
 pub fn word(table: &[u64], i: u64) -> u64
