@@ -17,9 +17,8 @@ use trie::{Next, Refusal};
 fn refusal_of_lost(n: u64, nodes: &[u64], versions: &[u64]) -> Refusal
     ensures { result ≡ lost_in n nodes.now versions.now }
 {
-    judge_tables(n, nodes, versions)
-        .err()
-        .unwrap_or(Refusal::Damaged)
+    let judged = judge_tables(n, nodes, versions);
+    judged.err().unwrap_or(Refusal::Damaged)
 }
 
 // After an answer the words are those of an idle record.
