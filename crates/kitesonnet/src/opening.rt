@@ -12,7 +12,7 @@ use records::rested;
 use trie::Refusal;
 
 // Workers 0 to w - 1 rest.
-// Record by record, and not by a fill with zeros: only writing.rs knows that an idle record is twelve zeros.
+// Record by record, and not by a fill with zeros: which words an idle record has is for reading.rt and writing.rt to say.
 #[tactic(auto, using(crate::proofs::SeatLaws::rested_first, crate::proofs::SeatLaws::rested_on))]
 fn rest(w: usize, board: &mut [u64])
     requires { record_words * w ≤ length board.old }

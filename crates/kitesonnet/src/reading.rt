@@ -43,7 +43,7 @@ fn flag(word: u64) -> Option<bool>
     (word <= 1).then_some(word == 1)
 }
 
-// What a refresh has read: those of the three versions that it has not read are 0.
+// How many of its three versions a refresh has read, and which: those that it has not read are 0.
 #[tactic(auto, unfolding(crate::specs::Reading::refresh_of))]
 fn refresh_of(read: u64, v: u64, l: u64, r: u64) -> Option<Held>
     ensures { result ≡ refresh_of read v l r }

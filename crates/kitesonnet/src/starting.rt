@@ -31,6 +31,7 @@ fn start(
     let o = operation_of(kind, first, second).ok_or(Refusal::Command)?;
     let seats = board.len() / RECORD_WORDS;
     judge(n, w, i, nodes.len(), versions.len(), seats)?;
+    // An update's share, 1 + h, is one addition, for which no crate below has a public function.
     let sum = promised_in(tables::height(n) + 1, w as usize, board);
     // Words that are no record stand for an idle one, so that 5 is not given for them: 9 is.
     let own = record_at(board, i as usize).unwrap_or(rested());

@@ -10,25 +10,26 @@ fn main(rt: HostRuntime) -> io::Result<()> {
     let mut chunk = [0u8; CHUNK];
     let mut out = [0u8; ANSWERS];
     let mut kept = AT_START;
+    // Counted, since a loop has to end; no input has so many chunks.
     for _ in 0..u64::MAX {
-        let n = read(&rt, &mut rt.stdin(), &mut chunk)?;
+        let read = rt.stdin().read(&mut chunk);
+        let n = or_say(&rt, read, "standard input cannot be read")?;
         let filled = serve(&mut kept, &chunk, n, &mut out);
-        if !write(&rt, &out, filled)? || n == 0 {
+        let written = io::writer(&rt).write_all(&out[..filled.min(ANSWERS)]);
+        or_say(&rt, written, "standard output cannot be written")?;
+        if n == 0 {
             return Ok(());
         }
     }
     Ok(())
 }
 
-// Reads what comes next of the input, of which there is none left where the count is 0; where that fails, says so.
-fn read(rt: &impl Eprint, input: &mut impl Read, chunk: &mut [u8; CHUNK]) -> io::Result<usize> {
-    match input.read(chunk) {
-        Ok(n) => Ok(n),
-        Err(e) => {
-            eprintln!(rt; "listing: standard input cannot be read")?;
-            Err(e)
-        }
+// Where reading or writing fails, says so before the error goes out.
+fn or_say<T: Drop>(rt: &impl Eprint, done: io::Result<T>, fault: &str) -> io::Result<T> {
+    if done.is_err() {
+        eprintln!(rt; "listing: {fault}")?;
     }
+    done
 }
 
 // The bytes that were read are served; where there are none, the input has ended.
@@ -37,18 +38,4 @@ fn serve(kept: &mut Kept, chunk: &[u8; CHUNK], n: usize, out: &mut [u8; ANSWERS]
         return kept.finish(out);
     }
     kept.serve(chunk, n, out)
-}
-
-// Writes the answers, or tells that the buffer has not so many bytes; where that fails, says so.
-fn write(rt: &(impl Print + Eprint), out: &[u8], filled: usize) -> io::Result<bool> {
-    let Some(text) = out.get(..filled) else {
-        return Ok(false);
-    };
-    match io::writer(rt).write_all(text) {
-        Ok(()) => Ok(true),
-        Err(e) => {
-            eprintln!(rt; "listing: standard output cannot be written")?;
-            Err(e)
-        }
-    }
 }
