@@ -4,3 +4,4 @@ pub mod PromisingLaws
 pub mod OpeningLaws
 pub mod CallLaws
 pub mod Decided
+pub mod OpenParts
