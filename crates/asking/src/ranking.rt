@@ -1,6 +1,6 @@
 // Rank adds what it passes on the left, and at its last step the leaf that it reaches.
 // A sum past its bound is damage, and is never formed.
-ghost use Rattle.std.specs.Prelude.{◌≡◌, ◌+◌, leb};
+ghost use Rattle.std.specs.Prelude.{◌≡◌, leb};
 ghost use Rattle.trie.specs.Choice.{pick};
 ghost use Rattle.trie.specs.Refusing.{damaged};
 ghost use Rattle.trie.specs.Asking.{passed_of, reached_of, rank_next, rank_seen, rank_of};

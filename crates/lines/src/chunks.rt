@@ -8,7 +8,7 @@ use crate::keeping::close;
 use crate::places::{first_place, go_on, whole_line};
 use crate::runs::{first_run, serve_steps};
 use crate::turns::take_turn;
-use crate::{ANSWERS, BLANK, Begun, CHUNK, Kept};
+use crate::{ANSWERS, BLANK, CHUNK, Kept};
 
 impl Kept {
     // Serves the lines that end in the chunk, and keeps the line that is begun at its end.

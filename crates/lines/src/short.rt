@@ -1,6 +1,5 @@
 // A step with a number of one or two digits, found where it lies without a search for the line's end.
 // Most lines of a listing are such; any other line is found by places.rt.
-ghost use Rattle.std.specs.Prelude.{◌≡◌};
 ghost use Rattle.lines.specs.Places.{Found};
 
 use crate::Step;
