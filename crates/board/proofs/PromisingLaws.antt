@@ -13,6 +13,7 @@ use Rattle.trie.specs.Refusing.{damaged}
 use Rattle.trie.specs.Record.{idle, owed_phase, together, promised_of}
 use Rattle.records.specs.Phases.{updating}
 use Rattle.board.specs.declared.promising.Tally.{Tally}
+use Rattle.steps.proofs.Together.{together_nothing, nothing_together, together_both}
 use Rattle.board.specs.Promising.{most_share, counted, tally_of, still_due, made_of}
 
 -- ---- bounds on the count
@@ -82,20 +83,6 @@ counted_due : (share : ℕ) (t : Tally) (p : Phase) → share ≤ most_share →
 counted_due share t p l h = either_due share t.updates t.made t.within p l h
 
 -- ---- one more worker promised for
-
-together_nothing : (x : Result ℕ Damage) → together x (Result.Ok 0) ≡ x
-together_nothing (Result.Err d) = refl
-together_nothing (Result.Ok a) = ap Result.Ok (omega arith)
-
-nothing_together : (x : Result ℕ Damage) → together (Result.Ok 0) x ≡ x
-nothing_together (Result.Err d) = refl
-nothing_together (Result.Ok a) = ap Result.Ok (omega arith)
-
-together_both : (x y z : Result ℕ Damage) → together (together x y) z ≡ together x (together y z)
-together_both (Result.Err d) y z = refl
-together_both (Result.Ok a) (Result.Err d) z = refl
-together_both (Result.Ok a) (Result.Ok b) (Result.Err d) = refl
-together_both (Result.Ok a) (Result.Ok b) (Result.Ok c) = ap Result.Ok (omega arith)
 
 -- past the board's end stands an idle worker, which promises nothing: so no length is asked
 promised_next : (share w : ℕ) (board : List Worker) → together (promised_of share w board) (owed_phase share (get_or board w idle).phase) ≡ promised_of share (suc w) board

@@ -14,6 +14,7 @@ use Rattle.trie.specs.Choice.{pick}
 use Rattle.trie.specs.Size.{height_of}
 use Rattle.trie.specs.Refusing.{damaged}
 use Rattle.trie.specs.Record.{owed_phase, together, promised_of}
+use Rattle.steps.proofs.Together.{together_nothing, nothing_together, together_both}
 use Rattle.kitesonnet.specs.Reading.{record_of}
 use Rattle.kitesonnet.specs.Seats.{record_words, record_at, readable, workers_in}
 use Rattle.kitesonnet.proofs.SeatLaws.{at_next}
@@ -104,20 +105,6 @@ share_small n = omega (arith, trailing_le 64 n)
 
 -- ---- one worker more
 
-together_assoc : (p q r : Result ℕ Damage) → together (together p q) r ≡ together p (together q r)
-together_assoc (Result.Err d) q r = refl
-together_assoc (Result.Ok a) (Result.Err d) r = refl
-together_assoc (Result.Ok a) (Result.Ok b) (Result.Err d) = refl
-together_assoc (Result.Ok a) (Result.Ok b) (Result.Ok c) =
-    let e : a + b + c ≡ a + (b + c) = omega arith in
-    ap Result.Ok e
-
-nothing_first : (p : Result ℕ Damage) → together (Result.Ok 0) p ≡ together p (Result.Ok 0)
-nothing_first (Result.Err d) = refl
-nothing_first (Result.Ok a) =
-    let e : 0 + a ≡ a + 0 = omega arith in
-    ap Result.Ok e
-
 -- none yet, and one more, as the loop that sums has it
 pub promised_none : (share : ℕ) (words : List ℕ) → Result.Ok 0 ≡ promised_in share 0 words
 unfolding promised_in
@@ -125,9 +112,9 @@ promised_none share words = refl
 
 promised_suc : (share i : ℕ) (words : List ℕ) → together (promised_in share i words) (owed_in share (record_at words i)) ≡ promised_in share (suc i) words
 unfolding promised_in
-promised_suc share zero words = nothing_first (owed_in share (record_at words 0))
+promised_suc share zero words = nothing_together (owed_in share (record_at words 0)) ∙ sym (together_nothing (owed_in share (record_at words 0)))
 promised_suc share (suc i) words =
-    together_assoc (owed_in share (record_at words 0)) (promised_in share i (drop record_words words)) (owed_in share (record_at words (suc i)))
+    together_both (owed_in share (record_at words 0)) (promised_in share i (drop record_words words)) (owed_in share (record_at words (suc i)))
     ∙ ap (λ (r : Option Worker). together (owed_in share (record_at words 0)) (together (promised_in share i (drop record_words words)) (owed_in share r))) (sym (at_next words i))
     ∙ ap (together (owed_in share (record_at words 0))) (promised_suc share i (drop record_words words))
 

@@ -1,4 +1,5 @@
--- Laws by which the calls that begin are proved:
--- whose bounds they are judged by, and how open fills the tables.
+-- Laws by which the calls that begin are proved: whose bounds they are judged by, how open fills the tables,
+-- and how what is promised adds up.
 pub mod Grants
 pub mod Fills
+pub mod Together
