@@ -4,7 +4,7 @@ ghost use Rattle.std.specs.Prelude.{◌≡◌, ◌*◌, ◌≤◌, length};
 ghost use Rattle.trie.specs.Size.{most_workers};
 ghost use Rattle.trie.specs.Record.{owed_phase};
 ghost use Rattle.kitesonnet.specs.Seats.{record_words};
-ghost use Rattle.kitesonnet.specs.Promising.{promised_in, most_share};
+ghost use Rattle.kitesonnet.specs.Promising.{owed_in, promised_in, most_share};
 
 use crate::seats::record_at;
 use trie::{Damage, Phase, Worker};
@@ -20,6 +20,13 @@ fn owed(share: u64, w: Worker) -> Result<u64, Damage>
     }
 }
 
+// What the record that a worker's words say may still make; words that are no record are damage.
+fn owed_in(share: u64, says: Option<Worker>) -> Result<u64, Damage>
+    ensures { result ≡ owed_in share says }
+{
+    owed(share, says.ok_or(Damage)?)
+}
+
 // Crate `board` counts by a tally, for speed; words that are no record stop this sum at once.
 pub(crate) fn promised_in(share: u64, w: usize, board: &[u64]) -> Result<u64, Damage>
     requires { (share ≤ most_share) × (w ≤ most_workers) × (record_words * w ≤ length board.now) }
@@ -27,8 +34,7 @@ pub(crate) fn promised_in(share: u64, w: usize, board: &[u64]) -> Result<u64, Da
 {
     let mut sum = 0;
     for i in 0..w {
-        let worker = record_at(board, i).ok_or(Damage)?;
-        sum += owed(share, worker)?;
+        sum += owed_in(share, record_at(board, i))?;
     }
     Ok(sum)
 }

@@ -15,7 +15,7 @@ returns-then-not-is_manned c = open_manned _ _ _ _ _ (sym c.is_allowed.ensures �
 pub returns-in_err-open_tables : goal.returns-in_err-open_tables
 returns-in_err-open_tables c =
     simp (goes_out _ _ c.from_residual.ensures.1)
-    (open_short _ _ _ _ _ _ _ _ (sym c.is_allowed.ensures ∙ c.if-not-is_allowed.false) (sym c.is_manned.ensures ∙ c.if-not-is_manned.false) c.in_err-open_tables.ensures)
+    (open_short _ _ _ _ _ _ _ _ (sym c.is_allowed.ensures ∙ c.if-not-is_allowed.false) (sym c.is_manned.ensures ∙ c.if-not-is_manned.false) c.in_err-open_tables.ensures).1
 
 pub returns : goal.returns
 returns c =

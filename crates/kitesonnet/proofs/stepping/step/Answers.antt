@@ -11,7 +11,7 @@ use Rattle.kitesonnet.proofs.GoesOut.{goes_out}
 use Rattle.kitesonnet.specs.Seats.{record_at}
 use Rattle.kitesonnet.specs.Answers.{answer_words}
 use Rattle.kitesonnet.specs.Calls.{lent, back, Answered, answered, step_roomy, kite_step_of}
-use Rattle.kitesonnet.proofs.CallLaws.{judged_in, left_by, left_is, step_sits, step_stays}
+use Rattle.kitesonnet.proofs.CallLaws.{judged_in, left_by, moves_are, step_sits, step_stays}
 use Rattle.kitesonnet.proofs.stepping.step.Goals as goal
 
 -- where the answer's row is long enough
@@ -25,7 +25,7 @@ stepped : (n w i : ℕ) (nodes versions board answer nodes' versions' : List ℕ
     → record_at board i ≡ Option.Some own → stepped_by m own nodes' versions' ≡ step_record_of n own nodes versions
     → left_by n i own nodes versions nodes' versions' board answer m ≡ kite_step_of n w i (lent nodes versions board) answer
 stepped n w i nodes versions board answer nodes' versions' own m l j r e =
-    roomy n w i nodes versions board answer _ l (left_is n i own nodes versions nodes' versions' board answer m e ∙ step_sits n w i nodes versions board answer (Option.Some own) r j)
+    roomy n w i nodes versions board answer _ l (moves_are n i own nodes versions nodes' versions' board answer m e ∙ step_sits n w i nodes versions board answer (Option.Some own) r j)
 
 pub returns-in_err-judge : goal.returns-in_err-judge
 returns-in_err-judge c =
