@@ -1,4 +1,4 @@
--- An open that is accepted begins a history: the N, W and V that are kept are such as `opened` asks for, so that the next start or step is not refused with 10.
+-- An open that is accepted begins a history: the N, W and V that are kept are such as `opened` asks for, so that the next start or step is not refused with 10. Before it there is none.
 -- Assumes nothing.
 use mathlib.Core.Path.{◌≡◌, refl, ap}
 use mathlib.Core.Bool.{Bool, true, false, ◌&&◌}
@@ -19,6 +19,7 @@ use Rattle.trie.specs.Calls.{State, After, check, manned, open_of}
 use Rattle.lines.specs.declared.Watch.{Watch}
 use Rattle.lines.specs.Watch.{history, most_cells, most_versions, opened, lent}
 use Rattle.lines.specs.Turns.{room}
+use Rattle.lines.specs.Chunks.{at_start}
 
 refused_gives : {A : Type 0} (k : ℕ) (a : A) → refused k ≡ gives a → ⊥
 refused_gives k a e = let z : ◌≡◌ {A = ℕ} 0 1 = cc in omega arith
@@ -53,3 +54,12 @@ open_opens n w v s a few e =
     and_both (allowed n && leb n most_cells) _ (and_both (allowed n) (leb n most_cells) one.0 few)
     (and_both (leb 1 w && leb w most_workers) _ (and_first (leb 1 w && leb w most_workers) (leb w (length s.board)) two.0)
     (and_both (leb (2 * n - 1) v) (leb v most_versions) (le-leb (2 * n - 1) v fits.0) (le-leb v most_versions fits.1)))
+
+-- before the first accepted open no history is under way: a listing begins with zeros, and no cells are too few
+too_few : (b t u : Bool) → ((b && false) && t) && u ≡ false
+too_few true t u = refl
+too_few false t u = refl
+
+pub closed_at_start : opened at_start.watch.history ≡ false
+unfolding opened allowed
+closed_at_start = too_few _ _ _

@@ -1,13 +1,17 @@
 -- What the bytes of the input do, one after the other: a newline ends a line, and any other byte goes into the line that is begun.
 -- Document 01, "The listing program". Assumes nothing.
-use Rattle.std.specs.Prelude.{List, [], ◌∷◌, ◌++◌, ℕ, ◌+◌, eqb, ltb, leb, length, take, drop, replicate, Option, None}
+use Rattle.std.specs.Prelude.{List, [], ◌∷◌, ◌++◌, ℕ, ◌+◌, ◌*◌, eqb, ltb, leb, length, take, drop, replicate, Option, None}
 use Rattle.std.proofs.Math.Seq.{paste}
 use Rattle.grammar.specs.declared.Command.{Command}
 use Rattle.grammar.specs.Grammar.{longest, line_of}
 use Rattle.trie.specs.Choice.{pick}
+use Rattle.trie.specs.Size.{most_workers}
+use Rattle.trie.specs.Tables.{width}
+use Rattle.trie.specs.Record.{idle}
 use Rattle.lines.specs.declared.Begun.{Begun}
 use Rattle.lines.specs.declared.Kept.{Kept}
 use Rattle.lines.specs.declared.Watch.{Watch}
+use Rattle.lines.specs.Watch.{watch, history, most_cells, most_versions}
 use Rattle.lines.specs.Turns.{Answered, line_turn}
 
 -- the line that is begun: its bytes so far, or that they are more than the longest line has
@@ -57,6 +61,13 @@ part_of b = pick (leb b.held longest) (upto (take b.held b.bytes)) over
 abbrev pub begun_of : Part → Begun
 begun_of (upto l) = record { bytes = paste zeros 0 l (length l); held = length l }
 begun_of over = record { bytes = zeros; held = longest + 1 }
+
+-- what is kept before the first chunk: no line is begun, no history is under way, the tables are blank, and every worker is idle
+abbrev pub at_start : Kept
+at_start = record {
+  begun = record { bytes = zeros; held = 0 };
+  watch = watch (history 0 0 0) (replicate (2 * most_cells) 0) (replicate (width * most_versions) 0) (replicate most_workers idle);
+}
 
 -- what is kept after a chunk, the buffer with what was written at its start, and where that ends
 pub record Outcome : Type 0 where

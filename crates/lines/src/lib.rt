@@ -2,6 +2,9 @@
 // The definitions of specs/ follow document 01, "The listing program", and the contracts are equations with them.
 #![tactic(auto)]
 
+ghost use Rattle.std.specs.Prelude.{◌≡◌};
+ghost use Rattle.lines.specs.Chunks.{at_start};
+
 mod chunks;
 mod histories;
 mod keeping;
@@ -76,7 +79,7 @@ pub struct Run {
 }
 
 // What is kept from one line to the next: the history under way, the tables and the board.
-#[derive(Clone, Drop)]
+#[derive(Clone, Copy)]
 pub struct Watch {
     pub history: History,
     pub nodes: [u64; NODE_TABLE],
@@ -85,7 +88,7 @@ pub struct Watch {
 }
 
 // What is kept from one chunk to the next: the line that is begun, and what is kept from line to line.
-#[derive(Clone, Drop)]
+#[derive(Clone, Copy)]
 pub struct Kept {
     pub begun: Begun,
     pub watch: Watch,
@@ -98,7 +101,7 @@ pub(crate) const BLANK: Begun = Begun {
 };
 
 // What is kept before the first chunk: no line is begun, no history is under way, the tables are blank, and every worker is idle.
-// A constant suffices, since zeros are no sizes that open accepts: `opened` of Watch.antt is false of them.
+// A constant suffices, since zeros are no sizes that open accepts: `closed_at_start` of Opened.antt shows it.
 pub const AT_START: Kept = Kept {
     begun: BLANK,
     watch: Watch {
@@ -112,3 +115,10 @@ pub const AT_START: Kept = Kept {
         board: [Worker { phase: Phase::Idle }; MOST_WORKERS],
     },
 };
+
+// What a listing begins with. A function stands beside the constant, since only a function has a contract that holds its value.
+pub fn at_start() -> Kept
+    ensures { result ≡ at_start }
+{
+    AT_START
+}

@@ -2,14 +2,14 @@
 // Nothing is kept but the line that is begun, the history and its tables, so the input may be of any length.
 #![tactic(auto)]
 
-use lines::{ANSWERS, AT_START, CHUNK, Kept};
+use lines::{ANSWERS, CHUNK, Kept, at_start};
 use std::io;
 use std::io::{Read, Write};
 
 fn main(rt: HostRuntime) -> io::Result<()> {
     let mut chunk = [0u8; CHUNK];
     let mut out = [0u8; ANSWERS];
-    let mut kept = AT_START;
+    let mut kept = at_start();
     // Counted, since a loop has to end; no input has so many chunks.
     for _ in 0..u64::MAX {
         let read = rt.stdin().read(&mut chunk);
