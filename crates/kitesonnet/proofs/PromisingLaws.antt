@@ -131,9 +131,11 @@ share_small n = omega (arith, trailing_le 64 n)
 -- ---- one worker more
 
 -- none yet, and one more, as the loop that sums has it
-pub promised_none : (share : ℕ) (words : List ℕ) → Result.Ok 0 ≡ promised_in share 0 words
+pub promised_none : (share w : ℕ) (words : List ℕ) → Result.Ok 0 ≡ promised_in share (w - w) words
 unfolding promised_in
-promised_none share words = refl
+promised_none share w words =
+    let e : 0 ≡ w - w = omega arith in
+    ap (λ (k : ℕ). promised_in share k words) e
 
 promised_suc : (share i : ℕ) (words : List ℕ) → together (promised_in share i words) (owed_in share (record_at words i)) ≡ promised_in share (suc i) words
 unfolding promised_in

@@ -10,7 +10,7 @@ use Rattle.kitesonnet.proofs.PromisingLaws.{promised_small, owed_small, promised
 use Rattle.kitesonnet.proofs.promising.promised_in.Goals as goal
 
 pub loop-i-init : goal.loop-i-init
-loop-i-init c = promised_none c.args.share c.args.board.now
+loop-i-init c = promised_none c.args.share 0 c.args.board.now
 
 pub returns-in_err-sum : goal.returns-in_err-sum
 returns-in_err-sum c =
