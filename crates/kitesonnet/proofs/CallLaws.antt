@@ -4,7 +4,7 @@ use Rattle.std.specs.Prelude.{◌≡◌, refl, Bool, not, ◌&&◌, List, ℕ, �
 use Rattle.std.proofs.Math.Path.{sym, ap}
 use Rattle.std.proofs.Common.{◌∙◌, arith, leb-true, get_or-set_same}
 use Rattle.std.proofs.Math.Bool.{true, false}
-use Rattle.decibel.specs.Told.{Told, refused, gives}
+use Rattle.decibel.specs.Told.{refused, gives}
 use Rattle.trie.specs.declared.Next.{Next}
 use Rattle.trie.specs.declared.Refusal.{Refusal}
 use Rattle.trie.specs.declared.Damage.{Damage}
@@ -51,11 +51,6 @@ module _ (n i : ℕ) (w : Worker) (nodes versions nodes' versions' board answer 
 
   pub moves_are : (m : Result Next Refusal) → stepped_by m w nodes' versions' ≡ step_record_of n w nodes versions → left_by m ≡ steps_in n i (Some w) (lent nodes versions board) answer
   moves_are m e = told_by m e ∙ ap (stepped_in i (lent nodes versions board) answer) e
-
--- the number of a refusal that is told
-abbrev number_in : Told Ok → ℕ
-number_in (refused number) = number
-number_in (gives a) = 0
 
 -- ---- the judging by lengths
 
@@ -220,7 +215,7 @@ module _ (n w : ℕ) (nodes versions board : List ℕ) where
     short_told : (refusal : Refusal) (r : Bool) → opened (Result.Err refusal) ≡ check_tables r 3 nodes versions (record { told = gives ok; nodes = open_nodes n nodes; versions = open_versions n versions })
         → number_of refusal ≡ 3
     short_told refusal true e = gives_not (sym (ap (λ (o : Opened). o.told) e))
-    short_told refusal false e = ap (λ (o : Opened). number_in o.told) e
+    short_told refusal false e = ap (λ (o : Opened). (returned o.told t t).number) e
 
     pub open_short : (refusal : Refusal) → allowed n ≡ true → manned_by w (seats_of board) ≡ true → opened (Result.Err refusal) ≡ open_tables_of n nodes versions
         → (number_of refusal ≡ 3) × (back (number_of refusal) (lent nodes' versions' board) ≡ kite_open_of n w t)
